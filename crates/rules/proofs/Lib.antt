@@ -1,0 +1,5 @@
+pub mod Choices
+pub mod InTurn
+pub mod Follows
+pub mod Sound
+pub mod Trials
