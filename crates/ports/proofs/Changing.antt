@@ -1,0 +1,81 @@
+-- A mask changed by an `or` shows one port more, and by shifts none below a pointer, at any width k.
+use mathlib.Core.Path.{_≡_, refl, sym, ap, _∙_}
+use mathlib.Core.Bool.{Bool, true, false, _&&_, _||_, or-false}
+use Prim.Native.Nat.{ℕ, suc, _+_, _-_, _*_, _/_, _%_, _^_, _≤_, _<_}
+use native.Mathlib.Nat.{mod-eq-of-lt, div-mul-le-self, lt-of-le-of-lt, lt-of-lt-of-le}
+use native.Mathlib.Omega.{arith}
+use borrow.Author.Tests.{eqb-true, eqb-false, ne-eqb, leb-true, leb-false}
+use lib.Bits.{bitOr, or-lt}
+use lib.Dec.{eqb, leb}
+use lib.Pow.{pow-pos, pow-mono, shl-shr}
+use Rattle.ports.specs.Ports.{withPort, atOrAfter}
+use Rattle.ports.specs.Mask.{shows, maskUpTo, digit}
+use Rattle.ports.proofs.Bits.{shows-shl, shows-shr, shl-shows-none, shows-or, shows-beyond}
+use Rattle.ports.proofs.Coding.{is-mask, empty-mask, digit-odd}
+use Rattle.ports.proofs.Pointing.{after-kept, after-cleared}
+
+-- ---- one port more: its summary, shifted to its place
+
+digit-shl-lt : (b : Bool) (i : ℕ) → digit b * 2 ^ i < 2 ^ suc i
+digit-shl-lt true i = omega (arith, pow-pos i)
+digit-shl-lt false i = omega (arith, pow-pos (suc i))
+
+shows-own : (b : Bool) (i : ℕ) → shows (digit b * 2 ^ i) (suc i) ≡ b
+unfolding shows
+shows-own b i = ap (λ (n : ℕ). eqb (n % 2) 1) (shl-shr (digit b) i) ∙ digit-odd b
+
+shows-no-other : (b : Bool) (i p : ℕ) → (p ≡ suc i → ⊥) → shows (digit b * 2 ^ i) p ≡ false
+shows-no-other b i p other = go (leb p i) refl
+  where
+    go : (t : Bool) → leb p i ≡ t → shows (digit b * 2 ^ i) p ≡ false
+    go true e = shl-shows-none (digit b) i p (leb-true p i e)
+    go false e = shows-beyond (digit b * 2 ^ i) (suc i) p (digit-shl-lt b i) (omega (arith, leb-false))
+
+shows-one : (b : Bool) (i p : ℕ) → shows (digit b * 2 ^ i) p ≡ (eqb p (suc i) && b)
+shows-one b i p = go (eqb p (suc i)) refl
+  where
+    go : (t : Bool) → eqb p (suc i) ≡ t → shows (digit b * 2 ^ i) p ≡ (t && b)
+    go true e = rw (eqb-true p (suc i) e) (shows-own b i)
+    go false e = shows-no-other b i p (eqb-false p (suc i) e)
+
+pub with-port : (k mask i : ℕ) (b : Bool) → mask < 2 ^ k → i < k
+    → bitOr mask (digit b * 2 ^ i % 2 ^ k) ≡ maskUpTo k (withPort (shows mask) (suc i) b)
+unfolding withPort
+with-port k mask i b h l =
+    let fits : digit b * 2 ^ i < 2 ^ k = lt-of-lt-of-le (digit-shl-lt b i) (pow-mono l) in
+    rw (mod-eq-of-lt fits)
+    (is-mask k (bitOr mask (digit b * 2 ^ i)) (withPort (shows mask) (suc i) b) (or-lt k mask (digit b * 2 ^ i) h fits)
+    (λ p q r. shows-or mask (digit b * 2 ^ i) p ∙ ap (λ (x : Bool). shows mask p || x) (shows-one b i p)))
+
+-- a number that is no port changes nothing
+pub with-no-port : (k mask port : ℕ) (b : Bool) → mask < 2 ^ k → ((p : ℕ) → 1 ≤ p → p ≤ k → p ≡ port → ⊥)
+    → mask ≡ maskUpTo k (withPort (shows mask) port b)
+unfolding withPort
+with-no-port k mask port b h other =
+    is-mask k mask (withPort (shows mask) port b) h
+    (λ p q r. sym (ap (λ (t : Bool). shows mask p || (t && b)) (ne-eqb p port (other p q r)) ∙ or-false (shows mask p)))
+
+-- ---- the ports below a pointer cleared
+
+shows-cleared : (m b p : ℕ) → 1 ≤ p → shows (m / 2 ^ b * 2 ^ b) p ≡ atOrAfter (suc b) (shows m) p
+shows-cleared m b p h = go (leb p b) refl
+  where
+    kept : (i : ℕ) → p ≡ suc (b + i) → shows (m / 2 ^ b * 2 ^ b) p ≡ shows m p
+    kept i e = rw e (shows-shl (m / 2 ^ b) b i ∙ shows-shr m b i)
+
+    go : (t : Bool) → leb p b ≡ t → shows (m / 2 ^ b * 2 ^ b) p ≡ atOrAfter (suc b) (shows m) p
+    go true e = shl-shows-none (m / 2 ^ b) b p (leb-true p b e) ∙ sym (after-cleared (suc b) (shows m) p (omega (arith, leb-true)))
+    go false e =
+        let l : b < p = leb-false p b e in
+        kept (p - suc b) (omega arith) ∙ sym (after-kept (suc b) (shows m) p l)
+
+pub cleared : (k m b : ℕ) → m < 2 ^ k → m / 2 ^ b * 2 ^ b % 2 ^ k ≡ maskUpTo k (atOrAfter (suc b) (shows m))
+cleared k m b h =
+    let fits : m / 2 ^ b * 2 ^ b < 2 ^ k = lt-of-le-of-lt (div-mul-le-self m (2 ^ b)) h in
+    rw (mod-eq-of-lt fits) (is-mask k (m / 2 ^ b * 2 ^ b) (atOrAfter (suc b) (shows m)) fits (λ p l r. shows-cleared m b p l))
+
+pub none-cleared : (k m pointer : ℕ) → m < 2 ^ k → pointer ≤ 1 → m ≡ maskUpTo k (atOrAfter pointer (shows m))
+none-cleared k m pointer h l = is-mask k m (atOrAfter pointer (shows m)) h (λ p q r. sym (after-kept pointer (shows m) p (omega arith)))
+
+pub all-cleared : (k m pointer : ℕ) → k < pointer → 0 ≡ maskUpTo k (atOrAfter pointer (shows m))
+all-cleared k m pointer h = empty-mask k (atOrAfter pointer (shows m)) (λ p l r. after-cleared pointer (shows m) p (omega arith))

@@ -1,0 +1,10 @@
+-- The laws that the proofs of `ports` share. Callers' proofs cite `Laws`, `Summaries`, `Building` and `Coding`.
+pub mod Bits
+pub mod Coding
+pub mod Pointing
+pub mod Changing
+pub mod Building
+pub mod Searching
+pub mod Answers
+pub mod Laws
+pub mod Summaries

@@ -1,0 +1,31 @@
+-- Sets of a hub's ports. A set is a test f, true of the ports in it.
+use mathlib.Core.Bool.{Bool, false, _&&_, _||_}
+use mathlib.Core.List.{List}
+use Prim.Native.Nat.{ℕ, zero, suc}
+use lib.Dec.{eqb, leb}
+use lib.ListN.{getD}
+
+-- a hub has at most 32 ports, numbered from 1
+abbrev pub ports : ℕ
+ports = 32
+
+-- the ports whose summaries are true, port 1's first
+unfoldable pub summaryOf : List Bool → ℕ → Bool
+summaryOf summaries zero = false
+summaryOf summaries (suc i) = getD summaries i false
+
+-- f, and port p as well where b holds
+unfoldable pub withPort : (ℕ → Bool) → ℕ → Bool → ℕ → Bool
+withPort f p b q = f q || (eqb q p && b)
+
+-- those of f at or after a pointer
+unfoldable pub atOrAfter : ℕ → (ℕ → Bool) → ℕ → Bool
+atOrAfter pointer f q = leb pointer q && f q
+
+-- whether some of ports 1 to k is in f
+unfoldable pub anyUpTo : ℕ → (ℕ → Bool) → Bool
+anyUpTo zero f = false
+anyUpTo (suc k) f = f (suc k) || anyUpTo k f
+
+abbrev pub anyPort : (ℕ → Bool) → Bool
+anyPort f = anyUpTo ports f
