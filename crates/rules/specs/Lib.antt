@@ -9,6 +9,7 @@ pub mod Machine
 pub mod Flat
 pub mod Control
 pub mod Run
+pub mod Agree
 pub mod Words
 pub mod Demand
 pub mod Trials
