@@ -12,4 +12,5 @@ pub mod Run
 pub mod Agree
 pub mod Words
 pub mod Demand
+pub mod Promises
 pub mod Trials
