@@ -1,0 +1,11 @@
+pub mod Samples
+pub mod Agree
+pub mod PlanBy
+pub mod Tree
+pub mod Tables
+pub mod TakenPlan
+pub mod KindLaws
+pub mod Tags
+pub mod ReaderLaws
+pub mod PortLaws
+pub mod PlanLaws

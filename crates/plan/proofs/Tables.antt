@@ -1,0 +1,10 @@
+pub mod Room
+pub mod Regions
+pub mod Puts
+pub mod Filling
+pub mod Shown
+pub mod Above
+pub mod Parts
+pub mod Facts
+pub mod Heads
+pub mod Drawn

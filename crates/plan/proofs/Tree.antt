@@ -1,0 +1,9 @@
+pub mod Room
+pub mod Count
+pub mod Figures
+pub mod Drawn
+pub mod DrawnTaken
+pub mod Trees
+pub mod TakenDrawn
+pub mod OneTree
+pub mod Taken

@@ -1,0 +1,61 @@
+-- Document 01's plan rows in one statement: a text is taken just where it starts with the drawing of a tree within the limits, behind three good figures,
+-- and then for that tree's tables. Every other text is refused. Assumes nothing.
+use Prim.Native.Nat.{ℕ}
+use mathlib.Core.Path.{_≡_, refl, sym, _∙_}
+use mathlib.Core.Logic.{_↔_}
+use mathlib.Core.List.{List}
+use native.Mathlib.Omega.{arith}
+use Rattle.plan.specs.declared.Answer.{Answer}
+use Rattle.plan.specs.declared.Answer.the-variants.{Taken, Refused}
+use Rattle.plan.specs.Reading.{reading}
+use Rattle.plan.specs.Tree.{nodesIn, hubsIn, tablesOf}
+use Rattle.plan.specs.Behind.{past}
+use Rattle.plan.proofs.Tree.DrawnTaken.{TakenFor, drawn-taken}
+use Rattle.plan.proofs.Tree.TakenDrawn.{DrawnBy, taken-drawn}
+
+-- the text is taken with these numbers of nodes and hubs, and the events start at this place and line
+abbrev pub TakenAs : List ℕ → ℕ → ℕ → ℕ → ℕ → Type 0
+TakenAs text nodes hubs at line = reading text .answer ≡ Taken nodes hubs at line
+
+abbrev pub RefusedAt : List ℕ → ℕ → ℕ → Type 0
+RefusedAt text line number = reading text .answer ≡ Refused line number
+
+-- the numbers and the tables are those of the tree that is drawn
+pub record OfTree (text : List ℕ) (nodes hubs at line : ℕ) (d : DrawnBy text) : Type 0 where
+  pub sameNodes : nodes ≡ nodesIn (d .tree)
+  pub sameHubs : hubs ≡ hubsIn (d .tree)
+  pub samePlace : at ≡ past (d .fig) (d .tree) .at
+  pub sameLine : line ≡ past (d .fig) (d .tree) .number
+  pub sameTables : reading text .tables ≡ tablesOf (d .fig) (d .tree)
+
+module _ (text : List ℕ) where
+  pub drawing-taken : (d : DrawnBy text) → TakenFor text (d .fig) (d .tree) (d .rest)
+  drawing-taken d = drawn-taken (d .fig) (d .tree) (d .rest) (d .good) (d .within) text (d .drawn)
+
+  -- whichever drawing the text starts with
+  pub taken-of : (nodes hubs at line : ℕ) → TakenAs text nodes hubs at line → (d : DrawnBy text) → OfTree text nodes hubs at line d
+  taken-of nodes hubs at line t d =
+      let k = drawing-taken d in
+      let e : Taken nodes hubs at line ≡ Taken (nodesIn (d .tree)) (hubsIn (d .tree)) (past (d .fig) (d .tree) .at) (past (d .fig) (d .tree) .number) = sym t ∙ k .answer in
+      record { sameNodes = cc; sameHubs = cc; samePlace = cc; sameLine = cc; sameTables = k .tables }
+
+  -- taken, just where a drawing stands
+  pub taken-iff : ((nodes : ℕ) × (hubs : ℕ) × (at : ℕ) × (line : ℕ) × TakenAs text nodes hubs at line) ↔ DrawnBy text
+  taken-iff = (
+    λ t. taken-drawn text (t .0) (t .1) (t .2) (t .3) (t .4),
+    λ d. (nodesIn (d .tree), hubsIn (d .tree), past (d .fig) (d .tree) .at, past (d .fig) (d .tree) .number, drawing-taken d .answer),
+  )
+
+  -- refused, just where none stands
+  pub refused-iff : ((line : ℕ) × (number : ℕ) × RefusedAt text line number) ↔ (DrawnBy text → ⊥)
+  refused-iff = (λ r d. told (r .0) (r .1) (r .2) d, λ f. go (reading text .answer) refl f)
+    where
+      told : (line number : ℕ) → RefusedAt text line number → DrawnBy text → ⊥
+      told line number r d =
+          let k = drawing-taken d .answer in
+          let z : _≡_ {A = ℕ} 0 1 = cc in
+          omega arith
+
+      go : (a : Answer) → reading text .answer ≡ a → (DrawnBy text → ⊥) → (line : ℕ) × (number : ℕ) × RefusedAt text line number
+      go (Taken nodes hubs at line) e f = absurd (f (taken-drawn text nodes hubs at line e))
+      go (Refused line number) e f = (line, number, e)

@@ -1,0 +1,232 @@
+// The plan: read from a text into tables of 32-bit cells.
+use text::Cursor;
+use text::Form;
+use text::Next;
+ghost use mathlib.Core.Path.{_≡_};
+ghost use Prim.Native.Nat.{_≤_, _-_};
+ghost use lib.ListN.{length};
+ghost use Rattle.plan.specs.Tables.{putFigures};
+ghost use Rattle.plan.specs.Reading.{reading, leaves};
+ghost use Rattle.plan.specs.PlanReader.{figureAt, rootAt, hubAt, interruptAt, overheadAt};
+
+mod cells;
+mod readers;
+
+// What a line of a plan is, other than a figure's.
+pub enum Kind {
+    Close,
+    Node,
+    Empty,
+    Hub,
+    Other,
+}
+
+// A plan is taken, with its numbers of nodes and hubs and where the events start (byte and line number), or refused at a line with a number.
+pub enum Answer {
+    Taken {
+        nodes: u32,
+        hubs: u32,
+        at: usize,
+        line: usize,
+    },
+    Refused {
+        line: usize,
+        number: u8,
+    },
+}
+
+// Where a reader is: the next line's place and number, and the nodes and hubs so far.
+pub struct Place {
+    pub at: usize,
+    pub number: usize,
+    pub nodes: u32,
+    pub hubs: u32,
+}
+
+// A part of the plan was read up to a place, or a line is refused.
+pub enum Part {
+    Read(Place),
+    Stopped { line: usize, number: u8 },
+}
+
+// The tables of a plan: see specs/Tables.antt for what stands where.
+pub type Plan = [u32; 1672];
+
+// A figure that was read, and where the next line starts; or a line is refused.
+pub enum Figure {
+    Got { value: u64, next: Cursor },
+    Not { line: usize, number: u8 },
+}
+
+// The figure of this word, from low to high, at a cursor.
+fn figure_at(text: &[u8], c: Cursor, word: &[u8], low: u64, high: u64) -> Figure
+    ensures { λ r. ⌜ r ≡ figureAt (now (text .entry)) c (now (word .entry)) low high ⌝ }
+{
+    match text::next_line(text, c) {
+        Next::Line {
+            start,
+            end,
+            number,
+            next,
+        } => match text::form_at(text, start, end, word, 1) {
+            Form::Numbers(x, _, _, _) => {
+                if x < low {
+                    return Figure::Not {
+                        line: number,
+                        number: 2,
+                    };
+                }
+                if high < x {
+                    return Figure::Not {
+                        line: number,
+                        number: 2,
+                    };
+                }
+                Figure::Got { value: x, next }
+            }
+            Form::NoForm => Figure::Not {
+                line: number,
+                number: 1,
+            },
+        },
+        Next::Unended {
+            start: _,
+            end: _,
+            number,
+        } => Figure::Not {
+            line: number,
+            number: 1,
+        },
+        Next::Done { number } => Figure::Not {
+            line: number,
+            number: 1,
+        },
+    }
+}
+
+// The root's `(hub` at a cursor: behind it there is no node yet, and one hub.
+fn root_at(text: &[u8], c: Cursor) -> Part
+    ensures { λ r. ⌜ r ≡ rootAt (now (text .entry)) c ⌝ }
+{
+    match text::next_line(text, c) {
+        Next::Line {
+            start,
+            end,
+            number,
+            next,
+        } => {
+            let kind = readers::kind_of(text, start, end);
+            if let Kind::Hub = kind {
+                return Part::Read(Place {
+                    at: next.at,
+                    number: next.number,
+                    nodes: 0,
+                    hubs: 1,
+                });
+            }
+            Part::Stopped {
+                line: number,
+                number: 1,
+            }
+        }
+        Next::Unended {
+            start: _,
+            end: _,
+            number,
+        } => Part::Stopped {
+            line: number,
+            number: 1,
+        },
+        Next::Done { number } => Part::Stopped {
+            line: number,
+            number: 1,
+        },
+    }
+}
+
+// The five figures.
+fn put_figures(s: &mut Plan, t: u64, o: u64, d: u64, nodes: u32, hubs: u32)
+    requires { ⌜ (t ≤ 4000000) × (o ≤ 50000) × (d ≤ 4000000) ⌝ }
+    ensures { λ _. ⌜ now (s .exit) ≡ putFigures t o d nodes hubs (now (s .entry)) ⌝ }
+{
+    s[0] = t as u32;
+    s[1] = o as u32;
+    s[2] = d as u32;
+    s[3] = nodes;
+    s[4] = hubs;
+}
+
+// The root hub at a cursor. It is read into a table of its own, which takes the lent one's place at the end.
+fn hub_at(text: &[u8], plan: &mut Plan, t: u64, o: u64, d: u64, c: Cursor) -> Answer
+    requires { ⌜ (t ≤ 4000000) × (o ≤ 50000) × (d ≤ 4000000) ⌝ }
+    ensures { λ r. ⌜ r ≡ hubAt (now (text .entry)) (length (now (text .entry))) (record { frame = t; overhead = o; interrupt = d }) c .answer ⌝ }
+    ensures { λ r. ⌜ now (plan .exit) ≡ leaves (hubAt (now (text .entry)) (length (now (text .entry))) (record { frame = t; overhead = o; interrupt = d }) c) (now (plan .entry)) ⌝ }
+{
+    match root_at(text, c) {
+        Part::Read(x) => {
+            let mut s = [0u32; 1672];
+            s[11] = 1;
+            match readers::hub_reader(text, &mut s, x, 1, 0, 4, text.len()) {
+                Part::Read(y) => {
+                    if y.nodes == 0 {
+                        return Answer::Refused {
+                            line: one_before(y.number),
+                            number: 3,
+                        };
+                    }
+                    put_figures(&mut s, t, o, d, y.nodes, y.hubs);
+                    *plan = s;
+                    Answer::Taken {
+                        nodes: y.nodes,
+                        hubs: y.hubs,
+                        at: y.at,
+                        line: y.number,
+                    }
+                }
+                Part::Stopped { line, number } => Answer::Refused { line, number },
+            }
+        }
+        Part::Stopped { line, number } => Answer::Refused { line, number },
+    }
+}
+
+fn one_before(number: usize) -> usize
+    ensures { λ r. ⌜ r ≡ number - 1 ⌝ }
+{
+    if number == 0 { 0 } else { number - 1 }
+}
+
+// The interrupt's line, and what follows it. D is 12,000 + O to T.
+fn interrupt_at(text: &[u8], plan: &mut Plan, t: u64, o: u64, c: Cursor) -> Answer
+    requires { ⌜ (t ≤ 4000000) × (o ≤ 50000) ⌝ }
+    ensures { λ r. ⌜ r ≡ interruptAt (now (text .entry)) (length (now (text .entry))) t o c .answer ⌝ }
+    ensures { λ r. ⌜ now (plan .exit) ≡ leaves (interruptAt (now (text .entry)) (length (now (text .entry))) t o c) (now (plan .entry)) ⌝ }
+{
+    match figure_at(text, c, b"(interrupt", 12000 + o, t) {
+        Figure::Got { value, next } => hub_at(text, plan, t, o, value, next),
+        Figure::Not { line, number } => Answer::Refused { line, number },
+    }
+}
+
+// The overhead's line, and what follows it. O is 0 to 50,000.
+fn overhead_at(text: &[u8], plan: &mut Plan, t: u64, c: Cursor) -> Answer
+    requires { ⌜ t ≤ 4000000 ⌝ }
+    ensures { λ r. ⌜ r ≡ overheadAt (now (text .entry)) (length (now (text .entry))) t c .answer ⌝ }
+    ensures { λ r. ⌜ now (plan .exit) ≡ leaves (overheadAt (now (text .entry)) (length (now (text .entry))) t c) (now (plan .entry)) ⌝ }
+{
+    match figure_at(text, c, b"(overhead", 0, 50000) {
+        Figure::Got { value, next } => interrupt_at(text, plan, t, value, next),
+        Figure::Not { line, number } => Answer::Refused { line, number },
+    }
+}
+
+// The plan at the start of a text. A taken one's tables stand in `plan`; a refused one leaves it as it was.
+pub fn read(text: &[u8], plan: &mut Plan) -> Answer
+    ensures { λ r. ⌜ r ≡ reading (now (text .entry)) .answer ⌝ }
+    ensures { λ r. ⌜ now (plan .exit) ≡ leaves (reading (now (text .entry))) (now (plan .entry)) ⌝ }
+{
+    match figure_at(text, text::first_line(), b"(frame", 100000, 4000000) {
+        Figure::Got { value, next } => overhead_at(text, plan, value, next),
+        Figure::Not { line, number } => Answer::Refused { line, number },
+    }
+}

@@ -1,0 +1,61 @@
+-- A buffer with bytes written over its own: as long as before, one byte is a store, and bytes written behind bytes are both written at once.
+-- Assumes nothing.
+use mathlib.Core.Path.{_≡_, refl, sym, ap, _∙_}
+use mathlib.Core.Bool.{true, false}
+use mathlib.Core.List.{List, [], _∷_, _++_, append-assoc, append-nil}
+use Prim.Native.Nat.{ℕ, suc, _+_, _≤_, _<_}
+use native.Mathlib.Nat.{add-zero, add-assoc}
+use native.Mathlib.Numerals.{add-one}
+use native.Mathlib.Omega.{arith}
+use borrow.Author.Tests.{le-leb, lt-leb}
+use lib.ListN.{length, take, drop, set, length-append, take-append-drop}
+use lib.Seq.{take-length, length-paste, length-paste-head, set-split, append-snoc, take-at, drop-append-add, paste, drop-drop}
+use Rattle.text.specs.Write.{overwrite, written, putBuffer, answered, putAnswer}
+use Rattle.text.specs.declared.Put.the-variants.{Behind, Short}
+
+-- all of s copied is s written
+pub paste-all : (d : List ℕ) (at : ℕ) (s : List ℕ) → paste d at s (length s) ≡ overwrite d at s
+paste-all d at s = rw (take-length s)
+
+pub overwrite-length : (d : List ℕ) (at : ℕ) (s : List ℕ) → at + length s ≤ length d → length (overwrite d at s) ≡ length d
+overwrite-length d at s h = ap length (sym (paste-all d at s)) ∙ length-paste d at s (length s) h (omega arith)
+
+pub overwrite-none : (d : List ℕ) (at : ℕ) → overwrite d at [] ≡ d
+overwrite-none d at = rw (append-nil (take at d), add-zero at) (take-append-drop at d)
+
+-- what is written, with what stands before it
+head-length : (d : List ℕ) (at : ℕ) (s : List ℕ) → at ≤ length d → length (take at d ++ s) ≡ at + length s
+head-length d at s h = ap (λ (x : List ℕ). length (take at d ++ x)) (sym (take-length s)) ∙ length-paste-head d at s (length s) h (omega arith)
+
+pub take-overwrite : (d : List ℕ) (at : ℕ) (s : List ℕ) → at ≤ length d → take (at + length s) (overwrite d at s) ≡ take at d ++ s
+take-overwrite d at s h = take-at (take at d ++ s) (drop (at + length s) d) (at + length s) (head-length d at s h)
+
+drop-overwrite : (d : List ℕ) (at : ℕ) (s : List ℕ) (k : ℕ) → at ≤ length d → drop (at + length s + k) (overwrite d at s) ≡ drop (at + length s + k) d
+drop-overwrite d at s k h =
+    ap (λ (n : ℕ). drop (n + k) (overwrite d at s)) (sym (head-length d at s h))
+    ∙ drop-append-add (take at d ++ s) (drop (at + length s) d) k
+    ∙ drop-drop k (at + length s) d
+
+pub overwrite-append : (d : List ℕ) (at : ℕ) (s t : List ℕ) → at ≤ length d → overwrite (overwrite d at s) (at + length s) t ≡ overwrite d at (s ++ t)
+overwrite-append d at s t h =
+    rw (take-overwrite d at s h, drop-overwrite d at s (length t) h, append-assoc (take at d) s t, length-append s t, add-assoc at (length s) (length t))
+
+-- one byte
+pub set-overwrite : (d : List ℕ) (i x : ℕ) → i < length d → set d i x ≡ overwrite d i (x ∷ [])
+set-overwrite d i x h = set-split d i x h ∙ sym (append-snoc (take i d) x (drop (suc i) d)) ∙ rw (add-one i)
+
+pub overwrite-snoc : (d : List ℕ) (at : ℕ) (s : List ℕ) (x : ℕ) → at + length s < length d
+    → set (overwrite d at s) (at + length s) x ≡ overwrite d at (s ++ (x ∷ []))
+overwrite-snoc d at s x h =
+    set-overwrite (overwrite d at s) (at + length s) x (rw (overwrite-length d at s (omega arith)) h)
+    ∙ overwrite-append d at s (x ∷ []) (omega arith)
+
+-- where the bytes fit, and where they do not
+pub put-fits : (d : List ℕ) (at : ℕ) (s : List ℕ) → at + length s ≤ length d
+    → (putAnswer d at s ≡ Behind (at + length s)) × (putBuffer d at s ≡ overwrite d at s)
+unfolding putAnswer putBuffer answered written
+put-fits d at s h = (rw (le-leb (at + length s) (length d) h), rw (le-leb (at + length s) (length d) h))
+
+pub put-short : (d : List ℕ) (at : ℕ) (s : List ℕ) → length d < at + length s → (putAnswer d at s ≡ Short) × (putBuffer d at s ≡ d)
+unfolding putAnswer putBuffer answered written
+put-short d at s h = (rw (lt-leb (at + length s) (length d) h), rw (lt-leb (at + length s) (length d) h))

@@ -1,0 +1,239 @@
+// Lines, decimal numbers and form words of a lent text, and the same written into a lent buffer.
+// A text is a slice of bytes and places in it are numbers from 0. No function has a `requires`: each says its whole answer, and the
+// whole buffer, for every input, by a definition of specs/.
+ghost use mathlib.Core.Path.{_≡_};
+ghost use Prim.Native.Nat.{_+_, _-_, _^_, _≤_, _<_};
+ghost use lib.ListN.{length, drop, getD};
+ghost use lib.Dec.{leb};
+ghost use mathlib.Core.List.{[]};
+ghost use Rattle.text.specs.Part.{part};
+ghost use Rattle.text.specs.Line.{nextLine, nextNumber};
+ghost use Rattle.text.specs.Number.{digits, isDigit, digitRun, restAt, numberAt};
+ghost use Rattle.text.specs.Word.{startsWith, isWord};
+ghost use Rattle.text.specs.Form.{readNumbers, formOf, formAt};
+ghost use Rattle.text.specs.Write.{overwrite, putAnswer, putBuffer, drawLine};
+
+// A place in a text, and the number of the line that starts there.
+pub struct Cursor {
+    pub at: usize,
+    pub number: usize,
+}
+
+// What the scanner hands out: a line with its LF, bytes start to end without it; bytes behind the last LF; or nothing is left.
+pub enum Next {
+    Line {
+        start: usize,
+        end: usize,
+        number: usize,
+        next: Cursor,
+    },
+    Unended {
+        start: usize,
+        end: usize,
+        number: usize,
+    },
+    Done {
+        number: usize,
+    },
+}
+
+// A number that was read, and the place behind it.
+pub enum Number {
+    Value { value: u64, next: usize },
+    NotOne,
+}
+
+// The numbers of a form, 0 where it has fewer than four.
+pub enum Form {
+    Numbers(u64, u64, u64, u64),
+    NoForm,
+}
+
+// The place behind what was written, or: the buffer is too short.
+pub enum Put {
+    Behind(usize),
+    Short,
+}
+
+const LAST: usize = 18446744073709551615;
+
+// Where the text starts: line 1.
+pub fn first_line() -> Cursor
+    ensures { λ r. ⌜ (r .at ≡ 0) × (r .number ≡ 1) ⌝ }
+{
+    Cursor { at: 0, number: 1 }
+}
+
+// The line at the cursor, with its number.
+pub fn next_line(text: &[u8], c: Cursor) -> Next
+    ensures { λ r. ⌜ r ≡ nextLine (now (text .entry)) c ⌝ }
+{
+    let at = c.at;
+    let number = c.number;
+    let mut i = at;
+    while i < text.len() {
+        if text[i] == 10 {
+            return Next::Line {
+                start: at,
+                end: i,
+                number,
+                next: Cursor {
+                    at: i + 1,
+                    number: next_number(number),
+                },
+            };
+        }
+        i += 1;
+    }
+    if at < i {
+        Next::Unended {
+            start: at,
+            end: i,
+            number,
+        }
+    } else {
+        Next::Done { number }
+    }
+}
+
+fn next_number(n: usize) -> usize
+    ensures { λ r. ⌜ r ≡ nextNumber n ⌝ }
+{
+    if n < LAST { n + 1 } else { LAST }
+}
+
+// The byte at a place, or 0 where none is there.
+fn front(text: &[u8], at: usize, end: usize) -> u8
+    ensures { λ r. ⌜ r ≡ getD (part (now (text .entry)) at end) 0 0 ⌝ }
+{
+    if at < end {
+        if at < text.len() {
+            return text[at];
+        }
+    }
+    0
+}
+
+fn is_digit(b: u8) -> bool
+    ensures { λ r. ⌜ r ≡ isDigit b ⌝ }
+{
+    if b < 48 { false } else { b <= 57 }
+}
+
+fn wide(b: u8) -> u64
+    ensures { λ r. ⌜ r ≡ b ⌝ }
+{
+    b as u64
+}
+
+// The rest of a number whose digits so far made `value`, and of which at most `left` digits may follow.
+fn digits_from(text: &[u8], at: usize, end: usize, value: u64, left: u8) -> Number
+    requires { ⌜ (left ≤ 15) × (value < 10 ^ (16 - left)) ⌝ }
+    ensures { λ r. ⌜ r ≡ restAt at value left (digitRun (part (now (text .entry)) at end)) ⌝ }
+{
+    let b = front(text, at, end);
+    if !is_digit(b) {
+        return Number::Value { value, next: at };
+    }
+    if left == 0 {
+        return Number::NotOne;
+    }
+    digits_from(text, at + 1, end, value * 10 + wide(b - 48), left - 1)
+}
+
+// The number at a place: the digits there are taken whole, and they are a number if there are 1 to 16 of them with no leading zero.
+// Only bytes before `end` are looked at.
+pub fn number_at(text: &[u8], at: usize, end: usize) -> Number
+    ensures { λ r. ⌜ r ≡ numberAt (now (text .entry)) at end ⌝ }
+{
+    let b = front(text, at, end);
+    if !is_digit(b) {
+        return Number::NotOne;
+    }
+    if b == 48 {
+        let second = front(text, at + 1, end);
+        if is_digit(second) {
+            return Number::NotOne;
+        }
+        return Number::Value {
+            value: 0,
+            next: at + 1,
+        };
+    }
+    digits_from(text, at + 1, end, wide(b - 48), 15)
+}
+
+// Whether the bytes from a place on, before `end`, begin with the word.
+pub fn word_at(text: &[u8], at: usize, end: usize, word: &[u8]) -> bool
+    ensures { λ r. ⌜ r ≡ startsWith (now (word .entry)) (part (now (text .entry)) at end) ⌝ }
+{
+    let mut p = at;
+    let mut i = 0;
+    while i < word.len() {
+        if end <= p {
+            return false;
+        }
+        if text.len() <= p {
+            return false;
+        }
+        if text[p] != word[i] {
+            return false;
+        }
+        p += 1;
+        i += 1;
+    }
+    true
+}
+
+// Whether the bytes from start to end are the word, no byte more.
+pub fn line_is(text: &[u8], start: usize, end: usize, word: &[u8]) -> bool
+    ensures { λ r. ⌜ r ≡ isWord (now (word .entry)) (part (now (text .entry)) start end) ⌝ }
+{
+    if !word_at(text, start, end, word) {
+        return false;
+    }
+    let behind = start + word.len();
+    if end <= behind {
+        return true;
+    }
+    if text.len() <= behind {
+        return true;
+    }
+    false
+}
+
+// `count` numbers, each behind one space, and `)`, from a place to the end of its line.
+fn numbers_from(text: &[u8], at: usize, end: usize, count: u8) -> Form
+    ensures { λ r. ⌜ r ≡ formOf (readNumbers count (part (now (text .entry)) at end)) ⌝ }
+{
+    if count == 0 {
+        if line_is(text, at, end, b")") {
+            return Form::Numbers(0, 0, 0, 0);
+        }
+        return Form::NoForm;
+    }
+    if front(text, at, end) != 32 {
+        return Form::NoForm;
+    }
+    let n = number_at(text, at + 1, end);
+    match n {
+        Number::Value { value, next } => {
+            let rest = numbers_from(text, next, end, count - 1);
+            match rest {
+                Form::Numbers(a, b, c, _) => Form::Numbers(value, a, b, c),
+                Form::NoForm => Form::NoForm,
+            }
+        }
+        Number::NotOne => Form::NoForm,
+    }
+}
+
+// The line from start to end as a form: the word, `count` numbers, each behind one space, and `)`. The first four numbers are handed out.
+pub fn form_at(text: &[u8], start: usize, end: usize, word: &[u8], count: u8) -> Form
+    ensures { λ r. ⌜ r ≡ formAt (now (text .entry)) start end (now (word .entry)) count ⌝ }
+{
+    if !word_at(text, start, end, word) {
+        return Form::NoForm;
+    }
+    numbers_from(text, start + word.len(), end, count)
+}
