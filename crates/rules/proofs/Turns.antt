@@ -66,3 +66,8 @@ module _ (p : Plan) (M : Machine) (follows : Follows p M) where
           go : (d : Class) (b : Bool) → Within (p .nodes) (if b then behind p (inTurn p f (π .pointers c)) else π .pointers d)
           go d true = behind-within p (inTurn p f (π .pointers c)) (choice .within)
           go d false = π .within d
+
+      -- they move behind the turn's node
+      pub pointers-turn : pointed-turn .pointers ≡ passed p c (M .choose c f σ .node) (π .pointers)
+      unfolding pointed-turn
+      pointers-turn = rw (follows .node c f σ (π .pointers) some (π .like))

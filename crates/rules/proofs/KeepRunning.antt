@@ -1,0 +1,146 @@
+-- One more call, where k is within f and has fewer than n high grants there: an event stays within f, and a step is a high turn.
+use Prim.Native.Nat.{ℕ, _+_, _≤_, _<_}
+use mathlib.Core.Path.{_≡_, refl, ap}
+use mathlib.Core.Bool.{true}
+use mathlib.Core.List.{List, _∷_}
+use native.Mathlib.Omega.{arith}
+use lib.ListN.{length}
+use lib.Dec.{eqb}
+use borrow.Author.Tests.{eq-eqb}
+use Rattle.rules.specs.Choice.{any}
+use Rattle.rules.specs.Plan.{Plan}
+use Rattle.rules.specs.Drawn.{Within, Figures}
+use Rattle.rules.specs.Call.{high, Call, time}
+use Rattle.rules.specs.Core.{Core, Share, Line, busy, resting, frameOf, advance, counts, Due, at, due}
+use Rattle.rules.specs.Machine.{Machine, Outcome}
+use Rattle.rules.specs.Rows.{change}
+use Rattle.rules.specs.Run.{Entry}
+use Rattle.rules.specs.Words.{turnIn}
+use Rattle.rules.proofs.Clash.{clash}
+use Rattle.rules.proofs.Choices.{true-false}
+use Rattle.rules.proofs.Follows.{Follows}
+use Rattle.rules.proofs.Frames.{started, starts, not-ended}
+use Rattle.rules.proofs.Course.{in-time, not-due, Course, refusal, event, quietly, granting, resting as rested}
+use Rattle.rules.proofs.Instants.{Instant, line-ends, one-counts, one-held, no-instant, instant, Advanced, across, inside, advanced}
+use Rattle.rules.proofs.Sound.{Told}
+use Rattle.rules.proofs.Advance.{advance-clock, due-late}
+use Rattle.rules.proofs.Fair.{reach, Moment}
+use Rattle.rules.proofs.Standing.{Standing, high-counts, some-counts, DueBefore, not-behind, handled-before}
+use Rattle.rules.proofs.Changed.{kept-by-change}
+use Rattle.rules.proofs.Stage.{entry, Held, until-end, at-rest, Facts, NextHigh, Running, Stage, running, counted, standing-first, within, within-frame}
+use Rattle.rules.proofs.Sums.{Same, it, other, same-or-not}
+use Rattle.rules.proofs.HighTurn.{turn-taken, no-rest}
+
+held-busy : {b c g : ℕ} {l : Line} (e : ℕ) → Held b c g l → l ≡ busy e → e ≤ b
+held-busy e (until-end x h) q = let r : x ≡ e = cc in omega arith
+held-busy e (at-rest h z) q = clash (cc)
+
+held-rest : {b c g : ℕ} {l : Line} → Held b c g l → l ≡ resting → (c ≤ b) × (g ≡ 0)
+held-rest (until-end x h) q = clash (cc)
+held-rest (at-rest h z) q = (h, z)
+
+-- the clock goes on within the reach
+held-on : {b c g t : ℕ} {l : Line} → t ≤ b → Held b c g l → Held b t g l
+held-on h (until-end x e) = until-end x e
+held-on h (at-rest e z) = at-rest h z
+
+module _ (p : Plan) (fig : Figures p) (M : Machine) (follows : Follows p M) (k f : ℕ) (w : Within (p .nodes) k) (R : ℕ → Share) where
+  module _ (past : List Entry) (s : Core) (σ : M .State) (facts : Facts p k f R past s)
+      (r : Running p M follows k f R (s .clock) (s .line) (s .granted) σ) where
+    share-left : s .granted k < s .force k .packets
+    share-left = let q = ap (λ (x : Share). x .packets) (facts .force (r .in-frame) k) in omega (arith, r .left)
+
+    -- an instant is due within the reach
+    pub running-due : DueBefore p s (reach p f R (s .granted) + 1)
+    running-due = go (instant p s) refl
+      where
+        at-rest-counts : s .line ≡ resting → any (p .nodes) (counts s) ≡ true
+        at-rest-counts l = some-counts p s k w (high-counts s k (standing-first p k f R past s facts (r .in-frame) (held-rest (r .held) l .1)) share-left)
+
+        go : {x : Due} → Instant p s x → due p s ≡ x → DueBefore p s (reach p f R (s .granted) + 1)
+        go (line-ends e l) q = record { time = e; is = q; soon = omega (arith, held-busy e (r .held) l) }
+        go (one-counts l c) q = record { time = s .clock; is = q; soon = omega (arith, held-rest (r .held) l .0) }
+        go (one-held l c h) q = absurd (true-false (at-rest-counts l) c)
+        go (no-instant l c h) q = absurd (true-false (at-rest-counts l) c)
+
+    -- so the clock stays within f
+    pub stays : (t : ℕ) → s .clock ≤ t → t ≤ reach p f R (s .granted) → frameOf p t ≡ f
+    stays t late soon =
+        let e = r .in-frame in
+        let low = started p fig f t (omega (arith, starts p fig f (s .clock) (omega arith))) in
+        let up = not-ended p fig f t (omega (arith, within-frame p k f R past s facts (r .in-frame) fig w (r .left) (r .size))) in
+        omega arith
+
+    -- the clock comes to a time of f within the reach, and an event changes neither line nor grants
+    event-stays : (call : Call) (t : ℕ) → s .clock ≤ t → t ≤ reach p f R (s .granted) → {c : Core} → Advanced p t s c
+        → Running p M follows k f R (change call c .clock) (change call c .line) (change call c .granted) σ
+    event-stays call t late soon {c} (inside l) =
+        kept-by-change (λ time line G. Running p M follows k f R time line G σ) call c
+        (record {
+          in-frame = stays t late soon;
+          pointed = r .pointed;
+          fair = r .fair;
+          left = r .left;
+          size = r .size;
+          held = held-on soon (r .held);
+        })
+    event-stays call t late soon (across l) = let e = r .in-frame in absurd (omega (arith, stays t late soon))
+
+    -- the clock comes to an instant within the reach, where k's request is high
+    moment : (d : ℕ) → s .clock ≤ d → d ≤ reach p f R (s .granted) → Standing s k → {c : Core} → Advanced p d s c
+        → Moment p k f R c (r .pointed .pointers high)
+    moment d late soon h {c} (inside l) =
+        record {
+          force = facts .force (r .in-frame);
+          within = within p k f R past s facts (r .in-frame);
+          fits = λ j b e. (let q = ap (λ (x : Share). x .bits) (facts .force (r .in-frame) j) in omega (arith, facts .sound .allowed j b e .fits));
+          fair = r .fair;
+          soon = soon;
+          counts = high-counts c k (record { bits = h .bits; stands = h .stands }) share-left;
+          size = r .size;
+        }
+    moment d late soon h (across l) = let e = r .in-frame in absurd (omega (arith, stays d late soon))
+
+    -- k's request is high before each turn: with no grant yet it stands unbroken, and then it is so as the next turn is chosen
+    standing-turn : NextHigh p k f R past → Standing s k
+    standing-turn later = go (same-or-not (s .granted k) 0)
+      where
+        go : Same (s .granted k) 0 → Standing s k
+        go (it e) = standing-first p k f R past s facts (r .in-frame) e
+        go (other d) =
+            let had = counted p k f past s (facts .told) (r .in-frame) in
+            let high = later (omega arith) (omega (arith, r .left)) in
+            record { bits = high .length; stands = facts .told .high k high }
+
+    -- an instant that is handled lies in f, and k's request counts there
+    handled-late : (d : ℕ) → due p s ≡ at d → s .clock ≤ d
+    handled-late d e = due-late p fig s (facts .sound) d e
+
+    handled-soon : (d : ℕ) → due p s ≡ at d → d ≤ reach p f R (s .granted)
+    handled-soon d e = omega (arith, handled-before p s (reach p f R (s .granted) + 1) d running-due e)
+
+    handled-in : (d : ℕ) → due p s ≡ at d → frameOf p d ≡ f
+    handled-in d e = stays d (handled-late d e) (handled-soon d e)
+
+    moment-handled : (d : ℕ) → due p s ≡ at d
+        → (eqb (frameOf p d) f ≡ true → NextHigh p k f R past)
+        → Moment p k f R (advance p d s) (r .pointed .pointers high)
+    moment-handled d e later =
+        moment d (handled-late d e) (handled-soon d e) (standing-turn (later (eq-eqb (frameOf p d) f (handled-in d e)))) (advanced p d s)
+
+    pub keep-running : {call : Call} {o : Outcome (M .State)} → Course p M (record { core = s; turn = σ }) call o
+        → Told p (entry call (o .answer) ∷ past) (o .hub .core)
+        → (turnIn p f call (o .answer) ≡ true → NextHigh p k f R past)
+        → Stage p M follows k f R (entry call (o .answer) ∷ past) (o .hub)
+    keep-running (refusal call n e) told later = running r
+    keep-running (event call e a) told later =
+        running
+        (event-stays call (time call) (in-time p s call a .late)
+        (omega (arith, not-behind p s (reach p f R (s .granted) + 1) (time call) running-due (not-due p s e a)))
+        (advanced p (time call) s))
+    keep-running (quietly t i n) told later = running r
+    keep-running (granting t d c i e l n) told later =
+        turn-taken p M follows k f w R t past (advance p d s) σ (r .pointed) c d n (advance-clock p d s) (moment-handled d e later)
+        (rw (advance-clock p d s) (handled-in d e)) told
+    keep-running (rested t d i e l n) told later =
+        absurd (no-rest p k f w R (advance p d s) (r .pointed .pointers high) (moment-handled d e later) n)
