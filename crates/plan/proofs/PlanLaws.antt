@@ -32,7 +32,7 @@ use Rattle.plan.specs.Tables.{noTable, putRoot, putFigures}
 use Rattle.plan.specs.Reading.{Figures, isHub}
 use Rattle.plan.specs.Reading as reading
 use Rattle.plan.specs.Readers.{Done′, hubReader}
-use Rattle.plan.specs.PlanReader.{figureAt, figureOf, figureIn, rootAt, hubAt, interruptAt, overheadAt, planBy, refused, planOver, behindRoot}
+use Rattle.plan.specs.PlanReader.{inRange, figureAt, figureOf, figureIn, rootAt, hubAt, interruptAt, overheadAt, planBy, refused, planOver, behindRoot}
 
 module _ (text : List ℕ) (c : Cursor) where
   module _ (word : List ℕ) (low high : ℕ) where
@@ -49,18 +49,9 @@ module _ (text : List ℕ) (c : Cursor) where
       unfolding figureAt
       figure-none f = rw (line, f)
 
-      module _ (x a b d : ℕ) (form : formAt text start end word 1 ≡ Numbers x a b d) where
-        pub figure-low : x < low → Not number 2 ≡ figureAt text c word low high
-        unfolding figureAt
-        figure-low h = rw (line, form) (simp (lt-leb low x h))
-
-        pub figure-high : low ≤ x → high < x → Not number 2 ≡ figureAt text c word low high
-        unfolding figureAt
-        figure-high l h = rw (line, form) (simp (le-leb low x l, lt-leb x high h))
-
-        pub figure-got : low ≤ x → x ≤ high → Got x next ≡ figureAt text c word low high
-        unfolding figureAt
-        figure-got l h = rw (line, form) (simp (le-leb low x l, le-leb x high h))
+      pub figure-numbers : (x a b d : ℕ) → formAt text start end word 1 ≡ Numbers x a b d → inRange x low high number next ≡ figureAt text c word low high
+      unfolding figureAt
+      figure-numbers x a b d form = rw (line, form)
 
   -- a figure that was read is in its range
   pub figure-range : (word : List ℕ) (low high x : ℕ) (next : Cursor) → figureAt text c word low high ≡ Got x next → (low ≤ x) × (x ≤ high)

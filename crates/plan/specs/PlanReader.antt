@@ -28,9 +28,13 @@ use Rattle.plan.specs.Readers.{Done′, stop, hubReader}
 abbrev pub refused : ℕ → ℕ → reading.Read
 refused line number = record { answer = Refused line number; tables = [] }
 
+-- a figure's range, 2
+abbrev pub inRange : ℕ → ℕ → ℕ → ℕ → Cursor → Figure
+inRange x low high line next = if leb low x && leb x high then Got x next else Not line 2
+
 -- a figure's form, then its range
 abbrev pub figureOf : Form → ℕ → Cursor → ℕ → ℕ → Figure
-figureOf (Numbers x b c d) line next low high = if leb low x && leb x high then Got x next else Not line 2
+figureOf (Numbers x b c d) line next low high = inRange x low high line next
 figureOf NoForm line next low high = Not line 1
 
 abbrev pub figureIn : List ℕ → Next → List ℕ → ℕ → ℕ → Figure

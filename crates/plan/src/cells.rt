@@ -4,7 +4,7 @@ ghost use mathlib.Core.Path.{_≡_};
 ghost use Prim.Native.Nat.{_≤_};
 ghost use Rattle.plan.specs.Tables.{putEmpty, putNode, putHub, putPorts};
 
-pub fn put_empty(s: &mut Plan, g: u32, q: u32)
+pub(crate) fn put_empty(s: &mut Plan, g: u32, q: u32)
     requires { ⌜ (1 ≤ g) × (g ≤ 32) ⌝ }
     requires { ⌜ q ≤ 32 ⌝ }
     ensures { λ _. ⌜ now (s .exit) ≡ putEmpty g q (now (s .entry)) ⌝ }
@@ -13,7 +13,7 @@ pub fn put_empty(s: &mut Plan, g: u32, q: u32)
     s[at] = 0;
 }
 
-pub fn put_ports(s: &mut Plan, g: u32, q: u32)
+pub(crate) fn put_ports(s: &mut Plan, g: u32, q: u32)
     requires { ⌜ (1 ≤ g) × (g ≤ 32) ⌝ }
     ensures { λ _. ⌜ now (s .exit) ≡ putPorts g q (now (s .entry)) ⌝ }
 {
@@ -21,7 +21,7 @@ pub fn put_ports(s: &mut Plan, g: u32, q: u32)
     s[at] = q;
 }
 
-pub fn put_node(s: &mut Plan, g: u32, q: u32, k: u32)
+pub(crate) fn put_node(s: &mut Plan, g: u32, q: u32, k: u32)
     requires { ⌜ (1 ≤ g) × (g ≤ 32) ⌝ }
     requires { ⌜ q ≤ 32 ⌝ }
     requires { ⌜ (1 ≤ k) × (k ≤ 256) ⌝ }
@@ -34,7 +34,7 @@ pub fn put_node(s: &mut Plan, g: u32, q: u32, k: u32)
     s[own + 1] = q;
 }
 
-pub fn put_hub(s: &mut Plan, g: u32, q: u32, h: u32, level: u32)
+pub(crate) fn put_hub(s: &mut Plan, g: u32, q: u32, h: u32, level: u32)
     requires { ⌜ (1 ≤ g) × (g ≤ 32) ⌝ }
     requires { ⌜ q ≤ 32 ⌝ }
     requires { ⌜ (1 ≤ h) × (h ≤ 32) ⌝ }

@@ -7,7 +7,7 @@ ghost use Prim.Native.Nat.{_≤_, _-_};
 ghost use lib.ListN.{length};
 ghost use Rattle.plan.specs.Tables.{putFigures};
 ghost use Rattle.plan.specs.Reading.{reading, leaves};
-ghost use Rattle.plan.specs.PlanReader.{figureAt, rootAt, hubAt, interruptAt, overheadAt};
+ghost use Rattle.plan.specs.PlanReader.{inRange, figureAt, rootAt, hubAt, interruptAt, overheadAt};
 
 mod cells;
 mod readers;
@@ -58,6 +58,19 @@ pub enum Figure {
     Not { line: usize, number: u8 },
 }
 
+// A number that is to lie from low to high, with the line where it stands and where the next one starts.
+fn in_range(x: u64, low: u64, high: u64, line: usize, next: Cursor) -> Figure
+    ensures { λ r. ⌜ r ≡ inRange x low high line next ⌝ }
+{
+    if x < low {
+        return Figure::Not { line, number: 2 };
+    }
+    if high < x {
+        return Figure::Not { line, number: 2 };
+    }
+    Figure::Got { value: x, next }
+}
+
 // The figure of this word, from low to high, at a cursor.
 fn figure_at(text: &[u8], c: Cursor, word: &[u8], low: u64, high: u64) -> Figure
     ensures { λ r. ⌜ r ≡ figureAt (now (text .entry)) c (now (word .entry)) low high ⌝ }
@@ -69,21 +82,7 @@ fn figure_at(text: &[u8], c: Cursor, word: &[u8], low: u64, high: u64) -> Figure
             number,
             next,
         } => match text::form_at(text, start, end, word, 1) {
-            Form::Numbers(x, _, _, _) => {
-                if x < low {
-                    return Figure::Not {
-                        line: number,
-                        number: 2,
-                    };
-                }
-                if high < x {
-                    return Figure::Not {
-                        line: number,
-                        number: 2,
-                    };
-                }
-                Figure::Got { value: x, next }
-            }
+            Form::Numbers(x, _, _, _) => in_range(x, low, high, number, next),
             Form::NoForm => Figure::Not {
                 line: number,
                 number: 1,

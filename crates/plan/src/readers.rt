@@ -14,7 +14,7 @@ ghost use Rattle.plan.specs.Kind.{kindOf};
 ghost use Rattle.plan.specs.Readers.{hubReader, portReader, nodePort, emptyPort, closing};
 
 // What a line is, other than a figure's.
-pub fn kind_of(text: &[u8], start: usize, end: usize) -> Kind
+pub(crate) fn kind_of(text: &[u8], start: usize, end: usize) -> Kind
     ensures { λ r. ⌜ r ≡ kindOf (part (now (text .entry)) start end) ⌝ }
 {
     if text::line_is(text, start, end, b")") {

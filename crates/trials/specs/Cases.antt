@@ -1,0 +1,141 @@
+-- The trial cases marked M, in document 01's words. Except M1 and M2 they use its plan.
+use mathlib.Core.List.{List, [], _∷_}
+use Rattle.rules.specs.Call.{normal, high, ask, reserve, step, taken, refused, grant, rest, quiet}
+use Rattle.trials.specs.Row.{Row, _⟶_, refusing, taking}
+use Rattle.trials.specs.Plans.{plan01, nine, short-interrupt, six-levels}
+
+-- M1: one hub of 9 nodes, pointer 3 (by a grant to node 2), normal from 2, 3, 5, 9: granted 3, 5, 9, 2
+abbrev pub m1 : Row
+m1 =
+    taking nine 9 1
+    (ask normal 0 2 1000 ⟶ taken
+    ∷ step 1 ⟶ grant 0 2 normal 2000 0
+    ∷ ask normal 1 2 1000 ⟶ taken
+    ∷ ask normal 1 3 1000 ⟶ taken
+    ∷ ask normal 1 5 1000 ⟶ taken
+    ∷ ask normal 1 9 1000 ⟶ taken
+    ∷ step 100000 ⟶ grant 2000 3 normal 4000 0
+    ∷ step 100000 ⟶ grant 4000 5 normal 6000 0
+    ∷ step 100000 ⟶ grant 6000 9 normal 8000 0
+    ∷ step 100000 ⟶ grant 8000 2 normal 10000 0
+    ∷ [])
+
+-- M2: the same hub, pointer 9 (by a grant to node 8), only node 1 stands: 1
+abbrev pub m2 : Row
+m2 =
+    taking nine 9 1
+    (ask normal 0 8 1000 ⟶ taken
+    ∷ step 1 ⟶ grant 0 8 normal 2000 0
+    ∷ ask normal 1 1 1000 ⟶ taken
+    ∷ step 100000 ⟶ grant 2000 1 normal 4000 0
+    ∷ [])
+
+-- M3: after a normal grant to 2, normal from 2 while that packet runs: granted, 2 moves
+abbrev pub m3 : Row
+m3 =
+    taking plan01 4 2
+    (ask normal 0 2 12000 ⟶ taken
+    ∷ step 1 ⟶ grant 0 2 normal 13000 1
+    ∷ ask normal 1 2 1000 ⟶ taken
+    ∷ step 100000 ⟶ grant 13000 2 normal 15000 2
+    ∷ [])
+
+-- M4: after a normal grant to 2, high from 4 (reserved) while it runs: 1 move; then normal from 2 and 3 while that one runs: node 3, 1 move
+abbrev pub m4 : Row
+m4 =
+    taking plan01 4 2
+    (reserve 0 4 1 4000 ⟶ taken
+    ∷ ask normal 100000 2 12000 ⟶ taken
+    ∷ step 100001 ⟶ grant 100000 2 normal 113000 1
+    ∷ ask high 100001 4 4000 ⟶ taken
+    ∷ step 113001 ⟶ grant 113000 4 high 118000 1
+    ∷ ask normal 113001 2 1000 ⟶ taken
+    ∷ ask normal 113001 3 1000 ⟶ taken
+    ∷ step 200000 ⟶ grant 118000 3 normal 120000 1
+    ∷ [])
+
+-- M5: alone, 29 packets of 2,000: 13,000 + 29 × 3,000 = 100,000, granted; of 2,001: 17
+abbrev pub m5-granted : Row
+m5-granted = taking plan01 4 2 (reserve 0 3 29 2000 ⟶ taken ∷ [])
+
+abbrev pub m5-refused : Row
+m5-refused = taking plan01 4 2 (reserve 0 3 29 2001 ⟶ refused 17 ∷ [])
+
+-- M6: n = 64 passes row 14 (13,000 + 64 × 1,512 is above 100,000, so the first row to say no is 17), 65 gives 14; n = 0 with b = 512 gives 15
+abbrev pub m6 : Row
+m6 =
+    taking plan01 4 2
+    (reserve 0 3 64 512 ⟶ refused 17
+    ∷ reserve 0 3 65 512 ⟶ refused 14
+    ∷ reserve 0 3 0 512 ⟶ refused 15
+    ∷ [])
+
+-- M7: 512 and 12,000 pass row 15; 511 and 12,001 don't. In a normal request, in a reservation, and in a high request with 12,000 bits in force
+abbrev pub m7-normal : Row
+m7-normal =
+    taking plan01 4 2
+    (ask normal 0 1 511 ⟶ refused 15
+    ∷ ask normal 0 1 512 ⟶ taken
+    ∷ ask normal 0 1 12000 ⟶ taken
+    ∷ ask normal 0 1 12001 ⟶ refused 15
+    ∷ [])
+
+abbrev pub m7-reserve : Row
+m7-reserve =
+    taking plan01 4 2
+    (reserve 0 3 1 511 ⟶ refused 15
+    ∷ reserve 0 3 1 512 ⟶ taken
+    ∷ reserve 0 3 1 12000 ⟶ taken
+    ∷ reserve 0 3 1 12001 ⟶ refused 15
+    ∷ [])
+
+abbrev pub m7-high : Row
+m7-high =
+    taking plan01 4 2
+    (reserve 0 3 1 12000 ⟶ taken
+    ∷ ask high 100000 3 511 ⟶ refused 15
+    ∷ ask high 100000 3 512 ⟶ taken
+    ∷ ask high 100000 3 12000 ⟶ taken
+    ∷ ask high 100000 3 12001 ⟶ refused 15
+    ∷ [])
+
+-- M8: node 3 reserves one packet of 4,000 in frame 0. High at 100,000 is granted then, 1 move, to 105,000. High again at 100,500: rest at 105,000,
+-- 1 move; grant at 200,000, 3 moves
+abbrev pub m8 : Row
+m8 =
+    taking plan01 4 2
+    (reserve 0 3 1 4000 ⟶ taken
+    ∷ ask high 100000 3 4000 ⟶ taken
+    ∷ step 100500 ⟶ grant 100000 3 high 105000 1
+    ∷ ask high 100500 3 4000 ⟶ taken
+    ∷ step 300000 ⟶ rest 105000 1
+    ∷ step 300000 ⟶ grant 200000 3 high 205000 3
+    ∷ [])
+
+-- M9: a step with its bound equal to the due instant: quiet. The instant is the clock, where a request counts; a busy line's end; and the next
+-- frame's start, where a request is held. A bound one above it isn't quiet
+abbrev pub m9 : Row
+m9 =
+    taking plan01 4 2
+    (reserve 0 3 1 4000 ⟶ taken
+    ∷ ask high 100000 3 4000 ⟶ taken
+    ∷ step 100000 ⟶ quiet
+    ∷ step 100001 ⟶ grant 100000 3 high 105000 1
+    ∷ ask high 100001 3 4000 ⟶ taken
+    ∷ step 105000 ⟶ quiet
+    ∷ step 105001 ⟶ rest 105000 1
+    ∷ step 200000 ⟶ quiet
+    ∷ step 200001 ⟶ grant 200000 3 high 205000 3
+    ∷ [])
+
+-- M10: interrupt 12,999: 2. Six levels: 3
+abbrev pub m10-interrupt : Row
+m10-interrupt = refusing short-interrupt 3 2
+
+abbrev pub m10-levels : Row
+m10-levels = refusing six-levels 9 3
+
+abbrev pub cases : List Row
+cases =
+    m1 ∷ m2 ∷ m3 ∷ m4 ∷ m5-granted ∷ m5-refused ∷ m6 ∷ m7-normal ∷ m7-reserve ∷ m7-high ∷ m8 ∷ m9 ∷ m10-interrupt
+    ∷ m10-levels ∷ []

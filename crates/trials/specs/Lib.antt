@@ -1,0 +1,7 @@
+-- Document 01, "Trial cases": the rows marked M, its example run and some short runs of the vectors as one table. Read them in this order.
+pub mod Text
+pub mod Row
+pub mod Plans
+pub mod Cases
+pub mod Runs
+pub mod Table
