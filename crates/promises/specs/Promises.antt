@@ -1,0 +1,43 @@
+-- The demands, in one record: of a plan and a list of calls made on its cascade, the latest first.
+use Prim.Native.Nat.{ℕ, _-_, _*_, _≤_}
+use mathlib.Core.Path.{_≡_}
+use mathlib.Core.List.{List, _∷_, map}
+use Rattle.rules.specs.Plan.{Plan, levels}
+use Rattle.rules.specs.Call.{Call, Answer, refused, quiet, taken, reserve}
+use Rattle.rules.specs.Core.{Core}
+use Rattle.rules.specs.Machine.{Hub, perform}
+use Rattle.rules.specs.Flat.{flat}
+use Rattle.rules.specs.Control.{Control, control}
+use Rattle.rules.specs.Run.{Made, Entry, made}
+use Rattle.rules.specs.Agree.{plain, movesOf, Every}
+use Rattle.rules.specs.Demand.{Holds3}
+use Rattle.rules.specs.Promises.{NoTimeLost, Admits, Holdable}
+
+module _ (p : Plan) (calls : List Call) where
+  -- the cascade after these calls, and the flat hub after the same
+  abbrev pub cascade : Made Control
+  cascade = made p (control p) calls
+
+  -- the cascade's answer to one more call, and the cascade that it leaves
+  abbrev pub answer : Call → Answer
+  answer call = perform p (control p) call (cascade .hub) .answer
+
+  abbrev pub left : Call → Hub Control
+  left call = perform p (control p) call (cascade .hub) .hub
+
+  pub record Promises : Type 0 where
+    -- Turns agree: the same refusals, and each grant with the same time, node, class and end as the flat hub's
+    pub turns-agree : map plain (cascade .past) ≡ map plain (made p (flat p) calls .past)
+    -- Moves: at most 4 × (L - 1) in each grant and rest
+    pub few-moves : Every (λ a. movesOf a ≤ 4 * (levels p - 1)) (cascade .past)
+    -- Demand 3
+    pub demand-3 : Holds3 p (cascade .past)
+    -- No time is lost, and the clock never goes back
+    pub no-time-lost : NoTimeLost p (control p) (cascade .hub)
+    pub clock-grows : (call : Call) → cascade .hub .core .clock ≤ left call .core .clock
+    -- A refusal leaves the state as it was, and so does quiet
+    pub refusal-changes-nothing : (call : Call) (n : ℕ) → answer call ≡ refused n → left call ≡ cascade .hub
+    pub quiet-changes-nothing : (call : Call) → answer call ≡ quiet → left call ≡ cascade .hub
+    -- Admission keeps its promise: no frame is overfilled, and a reserve in time and range that fits is taken
+    pub admits : Admits p (cascade .past) (cascade .hub .core)
+    pub takes : (t k n b : ℕ) → Holdable p (cascade .hub .core) t k n b → answer (reserve t k n b) ≡ taken

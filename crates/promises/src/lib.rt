@@ -1,0 +1,1 @@
+// What is promised of every plan text that is taken, over every list of calls: see specs/ and proofs/. No code.
