@@ -1,17 +1,16 @@
 -- What `numberAt` answers, by the run of digits that stands at the place: none, a zero alone, a zero with a digit behind it, or another digit and
 -- then at most 15 more. Assumes nothing.
-use mathlib.Core.Path.{_≡_, refl, sym, ap, _∙_}
+use mathlib.Core.Path.{_≡_, refl}
 use mathlib.Core.Bool.{Bool, true, false, cond}
 use mathlib.Core.List.{List, [], _∷_}
-use Prim.Native.Nat.{ℕ, suc, _+_, _-_, _*_}
-use native.Mathlib.Nat.{zero-add, add-zero}
+use Prim.Native.Nat.{ℕ, suc, _+_, _-_}
+use native.Mathlib.Nat.{zero-add}
 use native.Mathlib.Omega.{arith}
 use borrow.Author.Tests.{ne-eqb}
 use lib.Dec.{leb·suc-suc, leb}
 use lib.ListN.{length}
 use Rattle.text.specs.Part.{part}
 use Rattle.text.specs.Number.{digitRun, wellFormed, valueFrom, readRun, readNumber, numberFrom, numberAt, restAt}
-use Rattle.text.specs.declared.Number.{Number}
 use Rattle.text.specs.declared.Number.the-variants.{Value, NotOne}
 
 -- a first digit b and those behind it, once it is settled whether the run is a number

@@ -1,10 +1,10 @@
 -- The law of reading and drawing forms: a line is read as a word and these numbers just where it is drawn from them. Assumes nothing.
-use mathlib.Core.Path.{_≡_, refl, sym, ap, _∙_}
-use mathlib.Core.Bool.{Bool, true, false, not, _&&_}
+use mathlib.Core.Path.{_≡_, refl, ap, _∙_}
+use mathlib.Core.Bool.{Bool, true, false, not}
 use mathlib.Core.Logic.{_↔_}
 use mathlib.Core.List.{List, [], _∷_, _++_}
 use mathlib.Core.Option.{Option, none, some}
-use Prim.Native.Nat.{ℕ, zero, suc, _+_, _*_, _^_, _≤_, _<_}
+use Prim.Native.Nat.{ℕ, zero, suc, _+_, _*_, _≤_}
 use native.Mathlib.Omega.{arith}
 use borrow.Author.Tests.{eqb-true, ne-eqb}
 use lib.Dec.{eqb}
@@ -14,7 +14,6 @@ use Rattle.text.specs.Line.{noLF}
 use Rattle.text.specs.Number.{digits, digitRun, keepDigit, readNumber}
 use Rattle.text.specs.Word.{startsWith, isWord}
 use Rattle.text.specs.Form.{drawNumbers, drawForm, Small, andThen, readSpaced, readClose, readNumbers, readBehind, readForm, formOf}
-use Rattle.text.specs.declared.Form.{Form}
 use Rattle.text.specs.declared.Form.the-variants.{Numbers, NoForm}
 use Rattle.text.proofs.Run.{digit-range}
 use Rattle.text.proofs.Words.{both, starts-append, starts-split, is-word-same, is-word}

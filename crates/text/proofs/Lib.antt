@@ -6,8 +6,6 @@ pub mod Words
 pub mod Digits
 pub mod Numbers
 pub mod Forms
-pub mod Writes
-mod Spaced
 mod Run
 mod Answer
 mod Reading

@@ -1,11 +1,10 @@
 -- The lines of a text: drawn again they are the text, a line ends at the first LF, and the scanner hands them out one by one.
 -- Assumes nothing.
 use mathlib.Core.Path.{_≡_, refl, sym, ap, _∙_}
-use mathlib.Core.Bool.{Bool, true, false, not, _&&_}
+use mathlib.Core.Bool.{Bool, true, false, not}
 use mathlib.Core.List.{List, [], _∷_, _++_}
 use Prim.Native.Nat.{ℕ, _+_, _-_, _≤_, _<_}
 use native.Mathlib.Nat.{add-assoc, suc-add}
-use native.Mathlib.Numerals.{add-one}
 use native.Mathlib.Omega.{arith}
 use borrow.Author.Tests.{eqb-true, not-true}
 use lib.Dec.{eqb}
@@ -14,7 +13,6 @@ use lib.Seq.{drop-drop, take-length}
 use Rattle.text.specs.Part.{part}
 use Rattle.text.specs.Line.{Lines, nothing, unended, ended, before, lines, drawLines, noLF, nextNumber, handOut, nextLine}
 use Rattle.text.specs.declared.Cursor.{Cursor}
-use Rattle.text.specs.declared.Next.{Next}
 use Rattle.text.specs.declared.Next.the-variants.{Line, Unended, Done}
 use Rattle.text.proofs.Parts.{part-take}
 use Rattle.text.proofs.Words.{both}

@@ -1,20 +1,17 @@
 -- Reading numbers behind spaces at a place of a text: what one number more gives, and what stops it. Assumes nothing.
 use mathlib.Core.Path.{_≡_, refl, sym, ap, _∙_}
-use mathlib.Core.Bool.{Bool, true, false}
+use mathlib.Core.Bool.{true, false}
 use mathlib.Core.List.{List, [], _∷_}
 use mathlib.Core.Option.{Option, none, some}
 use Prim.Native.Nat.{ℕ, zero, suc, _+_, _-_, _≤_}
 use native.Mathlib.Omega.{arith}
 use borrow.Author.Tests.{eq-eqb, ne-eqb}
-use lib.Dec.{eqb}
-use lib.ListN.{length, drop, getD}
+use lib.ListN.{drop, getD}
 use Rattle.text.specs.Part.{part}
 use Rattle.text.specs.Number.{readNumber, numberFrom, numberAt}
 use Rattle.text.specs.Word.{isWord}
 use Rattle.text.specs.Form.{andThen, readClose, readSpaced, readNumbers, formOf}
-use Rattle.text.specs.declared.Number.{Number}
 use Rattle.text.specs.declared.Number.the-variants.{Value, NotOne}
-use Rattle.text.specs.declared.Form.{Form}
 use Rattle.text.specs.declared.Form.the-variants.{Numbers, NoForm}
 use Rattle.text.proofs.Parts.{part-drop}
 

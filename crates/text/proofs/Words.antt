@@ -1,12 +1,11 @@
 -- What the comparisons with a word say: a text that begins with the word is the word and then a rest, and a text that is the word is equal
 -- to it. Assumes nothing.
-use mathlib.Core.Path.{_≡_, refl, sym, ap, _∙_}
+use mathlib.Core.Path.{_≡_, refl, sym}
 use mathlib.Core.Bool.{Bool, true, false, _&&_, and-assoc, false≢true}
 use mathlib.Core.List.{List, [], _∷_, _++_}
-use Prim.Native.Nat.{ℕ, suc, _-_, _≤_, zero-le, suc-le-suc, min}
-use native.Mathlib.Omega.{arith}
-use borrow.Author.Tests.{eq-eqb, eqb-true, le-leb, lt-leb}
-use lib.Dec.{eqb, leb, leb·zero, leb·suc-zero, leb·suc-suc}
+use Prim.Native.Nat.{ℕ, _-_, _≤_, zero-le, suc-le-suc, min}
+use borrow.Author.Tests.{eq-eqb, eqb-true}
+use lib.Dec.{eqb, leb, leb·suc-zero, leb·suc-suc}
 use lib.ListN.{length, drop}
 use Rattle.text.specs.Part.{part}
 use Rattle.text.specs.Word.{startsWith, isWord}

@@ -4,4 +4,3 @@ pub mod Line
 pub mod Number
 pub mod Word
 pub mod Form
-pub mod Write

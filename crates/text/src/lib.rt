@@ -1,17 +1,14 @@
-// Lines, decimal numbers and form words of a lent text, and the same written into a lent buffer.
-// A text is a slice of bytes and places in it are numbers from 0. No function has a `requires`: each says its whole answer, and the
-// whole buffer, for every input, by a definition of specs/.
+// Lines, decimal numbers and form words of a lent text.
+// A text is a slice of bytes and places in it are numbers from 0. No public function has a `requires`: each says its whole answer
+// for every input, by a definition of specs/.
 ghost use mathlib.Core.Path.{_≡_};
 ghost use Prim.Native.Nat.{_+_, _-_, _^_, _≤_, _<_};
 ghost use lib.ListN.{length, drop, getD};
-ghost use lib.Dec.{leb};
-ghost use mathlib.Core.List.{[]};
 ghost use Rattle.text.specs.Part.{part};
 ghost use Rattle.text.specs.Line.{nextLine, nextNumber};
 ghost use Rattle.text.specs.Number.{digits, isDigit, digitRun, restAt, numberAt};
 ghost use Rattle.text.specs.Word.{startsWith, isWord};
 ghost use Rattle.text.specs.Form.{readNumbers, formOf, formAt};
-ghost use Rattle.text.specs.Write.{overwrite, putAnswer, putBuffer, drawLine};
 
 // A place in a text, and the number of the line that starts there.
 pub struct Cursor {
@@ -47,12 +44,6 @@ pub enum Number {
 pub enum Form {
     Numbers(u64, u64, u64, u64),
     NoForm,
-}
-
-// The place behind what was written, or: the buffer is too short.
-pub enum Put {
-    Behind(usize),
-    Short,
 }
 
 const LAST: usize = 18446744073709551615;

@@ -1,16 +1,12 @@
 -- `text::numbers_from` meets its contract, and ends since `count` falls: it reads as the definition does. Assumes nothing.
 use mathlib.Core.Path.{_≡_, refl, sym, ap, _∙_}
-use mathlib.Core.Bool.{true, false}
-use mathlib.Core.List.{List, [], _∷_}
-use mathlib.Core.Option.{none}
-use Prim.Native.Nat.{ℕ, _+_, _-_, _≤_, _<_}
+use Prim.Native.Nat.{ℕ, _+_, _-_, _<_}
 use native.Mathlib.Omega.{arith}
 use borrow.Author.Needs.{needs}
 use Rattle.text.specs.Part.{part}
 use Rattle.text.specs.Number.{numberAt}
 use Rattle.text.specs.Form.{readNumbers, andThen, formOf}
-use Rattle.text.specs.declared.Number.the-variants.{Value, NotOne}
-use Rattle.text.specs.declared.Form.the-variants.{Numbers, NoForm}
+use Rattle.text.specs.declared.Number.the-variants.{Value}
 use Rattle.text.proofs.Run.{place-inside}
 use Rattle.text.proofs.Reading.{closed, not-closed, no-space, no-number, number-more, front-numbers, front-none}
 use borrow.Fn.Kinds.{In}

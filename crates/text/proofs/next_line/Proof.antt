@@ -2,26 +2,21 @@
 -- that began there and has come to i, of which the rest stands at i. The measure is what is left of the text.
 -- Assumes nothing.
 use mathlib.Core.Path.{_≡_, refl, sym, ap, _∙_}
-use mathlib.Core.Bool.{Bool, true, false, cond}
-use mathlib.Core.List.{List, [], _∷_}
-use Prim.Native.Nat.{ℕ, suc, _+_, _-_, _≤_, _<_}
+use mathlib.Core.Bool.{false, cond}
+use mathlib.Core.List.{List}
+use Prim.Native.Nat.{ℕ, _+_, _-_, _≤_, _<_}
 use native.Mathlib.Nat.{add-zero}
 use native.Mathlib.Numerals.{add-one}
 use native.Mathlib.Omega.{arith}
-use borrow.Author.Needs.{needs}
 use borrow.Author.Tests.{lt-ltb, le-ltb, eq-eqb, ne-eqb}
 use lib.Dec.{ltb, eqb}
 use lib.ListN.{length, drop, getD, drop-of-length-le}
 use lib.Seq.{drop-cons}
 use Rattle.text.specs.Line.{Lines, nothing, unended, ended, before, lines, nextNumber, handOut, nextLine}
-use Rattle.text.specs.declared.Cursor.{Cursor}
 use Rattle.text.specs.declared.Next.{Next}
 use Rattle.text.specs.declared.Next.the-variants.{Line, Unended, Done}
 use Rattle.text.proofs.next_line.Statement.{statement}
 use Rattle.text.proofs.next_line.Tie as tie
-use Rattle.text.proofs.next_line.Reads as reads
-use Rattle.text.proofs.next_line.Lts as lts
-use Rattle.text.proofs.next_number.Reads as next-number-reads
 
 -- the answer for a line that began at `at`, has no LF before i, and goes on at i with these lines
 goOn : (at number i : ℕ) → Lines → Next

@@ -1,14 +1,14 @@
 -- `text::number_at` meets its contract: the byte at the place, and where it is a zero the byte behind it, say which answer is right.
 -- Assumes nothing.
-use mathlib.Core.Path.{_≡_, refl, sym, ap, _∙_}
-use mathlib.Core.Bool.{true, false}
-use mathlib.Core.List.{List, [], _∷_}
-use Prim.Native.Nat.{ℕ, _+_, _-_, _≤_, _<_}
+use mathlib.Core.Path.{_≡_, sym, _∙_}
+use mathlib.Core.Bool.{true}
+use mathlib.Core.List.{_∷_}
+use Prim.Native.Nat.{_+_, _≤_, _<_}
 use borrow.Author.Needs.{needs}
 use borrow.Author.Tests.{not-true, not-false}
 use native.Mathlib.Omega.{arith}
 use Rattle.text.specs.Part.{part}
-use Rattle.text.specs.Number.{isDigit, digitRun, restAt}
+use Rattle.text.specs.Number.{isDigit, digitRun}
 use Rattle.text.proofs.Run.{digit-range, place-inside, place-none, place-more}
 use Rattle.text.proofs.Answer.{no-digit, zero-alone, zero-first, other-first}
 use Rattle.text.proofs.number_at.Statement.{statement}

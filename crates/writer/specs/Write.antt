@@ -4,9 +4,9 @@ use mathlib.Core.Bool.{Bool, true, false}
 use mathlib.Core.List.{List, [], _∷_, _++_}
 use lib.Dec.{leb}
 use lib.ListN.{length, take, drop}
 use Rattle.text.specs.Form.{drawForm}
-use Rattle.text.specs.declared.Put.{Put}
-use Rattle.text.specs.declared.Put.the-variants.{Behind, Short}
+use Rattle.writer.specs.declared.Put.{Put}
+use Rattle.writer.specs.declared.Put.the-variants.{Behind, Short}
 
 -- whether the bytes fit in the buffer from a place on
 abbrev pub fits : List ℕ → ℕ → List ℕ → Bool

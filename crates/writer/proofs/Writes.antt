@@ -1,17 +1,21 @@
 -- A buffer with bytes written over its own: as long as before, one byte is a store, and bytes written behind bytes are both written at once.
 -- Assumes nothing.
 use mathlib.Core.Path.{_≡_, refl, sym, ap, _∙_}
-use mathlib.Core.Bool.{true, false}
 use mathlib.Core.List.{List, [], _∷_, _++_, append-assoc, append-nil}
-use Prim.Native.Nat.{ℕ, suc, _+_, _≤_, _<_}
+use Prim.Native.Nat.{ℕ, suc, _+_, _^_, _≤_, _<_}
+use mathlib.Core.Option.{some}
 use native.Mathlib.Nat.{add-zero, add-assoc}
 use native.Mathlib.Numerals.{add-one}
 use native.Mathlib.Omega.{arith}
 use borrow.Author.Tests.{le-leb, lt-leb}
 use lib.ListN.{length, take, drop, set, length-append, take-append-drop}
-use lib.Seq.{take-length, length-paste, length-paste-head, set-split, append-snoc, take-at, drop-append-add, paste, drop-drop}
-use Rattle.text.specs.Write.{overwrite, written, putBuffer, answered, putAnswer}
-use Rattle.text.specs.declared.Put.the-variants.{Behind, Short}
+use lib.Seq.{take-length, length-paste, length-paste-head, set-split, append-snoc, take-at, drop-append-add, paste, drop-drop, drop-at, length-take-le}
+use Rattle.text.specs.Part.{part}
+use Rattle.text.specs.Number.{digits, digitRun, readNumber, numberFrom, numberAt}
+use Rattle.writer.specs.Write.{overwrite, written, putBuffer, answered, putAnswer}
+use Rattle.writer.specs.declared.Put.the-variants.{Behind, Short}
+use Rattle.text.specs.declared.Number.the-variants.{Value}
+use Rattle.text.proofs.Numbers.{read-written}
 
 -- all of s copied is s written
 pub paste-all : (d : List ℕ) (at : ℕ) (s : List ℕ) → paste d at s (length s) ≡ overwrite d at s
@@ -59,3 +63,15 @@ put-fits d at s h = (rw (le-leb (at + length s) (length d) h), rw (le-leb (at + 
 pub put-short : (d : List ℕ) (at : ℕ) (s : List ℕ) → length d < at + length s → (putAnswer d at s ≡ Short) × (putBuffer d at s ≡ d)
 unfolding putAnswer putBuffer answered written
 put-short d at s h = (rw (lt-leb (at + length s) (length d) h), rw (lt-leb (at + length s) (length d) h))
+
+-- what was written stands there
+pub part-overwrite : (d : List ℕ) (at : ℕ) (s : List ℕ) → at ≤ length d → part (overwrite d at s) at (at + length s) ≡ s
+part-overwrite d at s h = ap (drop at) (take-overwrite d at s h) ∙ drop-at (take at d) s at (length-take-le at d h)
+
+-- a number that was written is read back
+pub number-back : (d : List ℕ) (at n : ℕ) → at ≤ length d → n < 10 ^ 16
+    → numberAt (overwrite d at (digits n)) at (at + length (digits n)) ≡ Value n (at + length (digits n))
+unfolding numberAt numberFrom digitRun
+number-back d at n h small =
+    let e : readNumber (digits n) ≡ some (n, length (digits n)) = ap readNumber (sym (append-nil (digits n))) ∙ read-written n [] small refl in
+    rw (part-overwrite d at (digits n) h, e)

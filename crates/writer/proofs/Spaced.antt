@@ -10,10 +10,10 @@ use borrow.Author.Tests.{le-leb, lt-leb, leb-true, leb-false}
 use lib.Dec.{leb}
 use lib.ListN.{length, take, drop, set, getD, length-append, take-append-drop}
 use lib.Seq.{drop-cons, take-suc, append-snoc}
 use Rattle.text.specs.Number.{digits}
 use Rattle.text.specs.Form.{drawNumbers, drawForm}
-use Rattle.text.specs.Write.{overwrite, drawLine}
-use Rattle.text.proofs.Writes.{overwrite-append, overwrite-snoc, overwrite-length}
+use Rattle.writer.specs.Write.{overwrite, drawLine}
+use Rattle.writer.proofs.Writes.{overwrite-append, overwrite-snoc}
 
 -- the numbers without the closing bracket
 unfoldable pub spaced : List ℕ → List ℕ

@@ -1,0 +1,3 @@
+-- Laws about what is written, for later crates: Writes. Spaced serves the proofs here.
+pub mod Writes
+mod Spaced

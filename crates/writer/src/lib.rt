@@ -1,0 +1,145 @@
+// Numbers, words and whole lines written into a lent buffer at a place: all of the bytes, or none. No public function has a `requires`: each says its
+// whole answer and the whole buffer, for every input, by a definition of specs/.
+ghost use mathlib.Core.Path.{_≡_};
+ghost use mathlib.Core.List.{[]};
+ghost use Prim.Native.Nat.{_+_, _≤_, _<_};
+ghost use lib.Dec.{leb};
+ghost use lib.ListN.{length};
+ghost use Rattle.text.specs.Number.{digits};
+ghost use Rattle.writer.specs.Write.{overwrite, putAnswer, putBuffer, drawLine};
+
+// The place behind what was written, or: the buffer is too short.
+pub enum Put {
+    Behind(usize),
+    Short,
+}
+
+// How many digits a number has.
+pub fn number_length(value: u64) -> usize
+    ensures { λ r. ⌜ r ≡ length (digits value) ⌝ }
+{
+    if value < 10 {
+        1
+    } else {
+        number_length(value / 10) + 1
+    }
+}
+
+// All of the bytes, from `at` on, into a buffer that has room for them; the place behind them.
+fn copy_to(buffer: &mut [u8], at: usize, bytes: &[u8]) -> usize
+    requires { ⌜ at + length (now bytes) ≤ length (now buffer) ⌝ }
+    ensures { λ r. ⌜ (r ≡ at + length (now (bytes .entry))) × (now (buffer .exit) ≡ overwrite (now (buffer .entry)) at (now (bytes .entry))) ⌝ }
+{
+    let mut i = 0;
+    while i < bytes.len() {
+        buffer[at + i] = bytes[i];
+        i += 1;
+    }
+    at + bytes.len()
+}
+
+// The digits of a number, from `at` on, into a buffer that has room for them; the place behind them.
+fn digits_to(buffer: &mut [u8], at: usize, value: u64) -> usize
+    requires { ⌜ at + length (digits value) ≤ length (now buffer) ⌝ }
+    ensures { λ r. ⌜ (r ≡ at + length (digits value)) × (now (buffer .exit) ≡ overwrite (now (buffer .entry)) at (digits value)) ⌝ }
+{
+    if value < 10 {
+        buffer[at] = digit(value);
+        at + 1
+    } else {
+        let last = digits_to(buffer, at, value / 10);
+        buffer[last] = digit(value % 10);
+        last + 1
+    }
+}
+
+fn digit(d: u64) -> u8
+    requires { ⌜ d < 10 ⌝ }
+    ensures { λ r. ⌜ r ≡ 48 + d ⌝ }
+{
+    48 + d as u8
+}
+
+// Whether `count` bytes fit in a buffer of this length from `at` on.
+fn has_room(length: usize, at: usize, count: usize) -> bool
+    ensures { λ r. ⌜ r ≡ leb (at + count) length ⌝ }
+{
+    if length < at {
+        return false;
+    }
+    if length - at < count {
+        return false;
+    }
+    true
+}
+
+// The word into the buffer from `at` on, or nothing.
+pub fn put_word(buffer: &mut [u8], at: usize, word: &[u8]) -> Put
+    ensures { λ r. ⌜ (r ≡ putAnswer (now (buffer .entry)) at (now (word .entry))) × (now (buffer .exit) ≡ putBuffer (now (buffer .entry)) at (now (word .entry))) ⌝ }
+{
+    if !has_room(buffer.len(), at, word.len()) {
+        return Put::Short;
+    }
+    Put::Behind(copy_to(buffer, at, word))
+}
+
+// The number in decimal into the buffer from `at` on, or nothing.
+pub fn put_number(buffer: &mut [u8], at: usize, value: u64) -> Put
+    ensures { λ r. ⌜ (r ≡ putAnswer (now (buffer .entry)) at (digits value)) × (now (buffer .exit) ≡ putBuffer (now (buffer .entry)) at (digits value)) ⌝ }
+{
+    if !has_room(buffer.len(), at, number_length(value)) {
+        return Put::Short;
+    }
+    Put::Behind(digits_to(buffer, at, value))
+}
+
+// Whether a whole line, the form and its LF, fits in this many bytes.
+fn line_fits(word: &[u8], numbers: &[u64], room: usize) -> bool
+    ensures { λ r. ⌜ r ≡ leb (length (drawLine (now (word .entry)) (now (numbers .entry)))) room ⌝ }
+{
+    if room < word.len() {
+        return false;
+    }
+    let mut left = room - word.len();
+    let mut i = 0;
+    while i < numbers.len() {
+        let need = number_length(numbers[i]) + 1;
+        if left < need {
+            return false;
+        }
+        left -= need;
+        i += 1;
+    }
+    2 <= left
+}
+
+// The numbers, each behind a space, `)` and LF, from `at` on, into a buffer that has room for them; the place behind them.
+fn numbers_to(buffer: &mut [u8], at: usize, numbers: &[u64]) -> usize
+    requires { ⌜ at + length (drawLine [] (now numbers)) ≤ length (now buffer) ⌝ }
+    ensures { λ r. ⌜ (r ≡ at + length (drawLine [] (now (numbers .entry)))) × (now (buffer .exit) ≡ overwrite (now (buffer .entry)) at (drawLine [] (now (numbers .entry)))) ⌝ }
+{
+    let mut p = at;
+    let mut i = 0;
+    while i < numbers.len() {
+        buffer[p] = 32;
+        p = digits_to(buffer, p + 1, numbers[i]);
+        i += 1;
+    }
+    buffer[p] = 41;
+    buffer[p + 1] = 10;
+    p + 2
+}
+
+// A whole line into the buffer from `at` on, or nothing: the word, each number behind a space, `)` and LF.
+pub fn put_form(buffer: &mut [u8], at: usize, word: &[u8], numbers: &[u64]) -> Put
+    ensures { λ r. ⌜ (r ≡ putAnswer (now (buffer .entry)) at (drawLine (now (word .entry)) (now (numbers .entry)))) × (now (buffer .exit) ≡ putBuffer (now (buffer .entry)) at (drawLine (now (word .entry)) (now (numbers .entry)))) ⌝ }
+{
+    if buffer.len() < at {
+        return Put::Short;
+    }
+    if !line_fits(word, numbers, buffer.len() - at) {
+        return Put::Short;
+    }
+    let behind = copy_to(buffer, at, word);
+    Put::Behind(numbers_to(buffer, behind, numbers))
+}
