@@ -13,7 +13,7 @@ use Rattle.rules.specs.Flat.{flat, inTurn}
 use Rattle.rules.specs.Run.{Entry, made}
 use Rattle.rules.specs.Words.{clockAt, reserved, requestAt, High, highGrants}
 use Rattle.rules.specs.Demand.{Unbroken, NextTurns, by-clock, Demand3, Holds3}
-use Rattle.rules.specs.Trials.{plan01}
+use Rattle.rules.specs.Sample.{plan01}
 use Rattle.rules.proofs.Clash.{clash}
 use Rattle.rules.proofs.Follows.{flat-follows}
 use Rattle.rules.proofs.Stage.{entry}

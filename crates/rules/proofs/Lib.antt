@@ -39,4 +39,4 @@ pub mod Quiet
 pub mod Demand3
 pub mod ControlDemand3
 pub mod Applies
-pub mod Trials
+pub mod Slips

@@ -13,4 +13,5 @@ pub mod Agree
 pub mod Words
 pub mod Demand
 pub mod Promises
-pub mod Trials
+pub mod Sample
+pub mod Slips
