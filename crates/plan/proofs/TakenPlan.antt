@@ -5,19 +5,10 @@ use mathlib.Core.List.{List}
 use Rattle.rules.specs.Plan as rules
 use Rattle.rules.specs.Drawn.{Drawn, Within}
 use Rattle.plan.specs.Reading.{reading}
-use Rattle.plan.specs.Tables.{planOf, hubOfNode, portOfNode}
-use Rattle.plan.proofs.Tree.TakenDrawn.{DrawnBy, taken-drawn}
-use Rattle.plan.proofs.Tree.Taken.{TakenAs, OfTree, taken-of}
-use Rattle.plan.proofs.Tables.Parts.{Holds}
+use Rattle.plan.specs.Taken.{TakenAs, OfTree, TakenPlan}
+use Rattle.plan.proofs.Tree.TakenDrawn.{taken-drawn}
+use Rattle.plan.proofs.Tree.Taken.{taken-of}
 use Rattle.plan.proofs.Tables.Drawn.{drawn, nodes-are, hubs-are, node-stands, node-only}
-
-pub record TakenPlan (cells : List ℕ) (nodes hubs : ℕ) : Type 0 where
-  pub plan : Drawn (planOf cells)
-  pub nodes-told : planOf cells .nodes ≡ nodes
-  pub hubs-told : planOf cells .hubs ≡ hubs
-  -- a node's own cells name the port that holds it, and no other port does
-  pub node-port : (k : ℕ) → Within (planOf cells .nodes) k → Holds (planOf cells) (rules.node k) (hubOfNode cells k) (portOfNode cells k)
-  pub one-port : (k g q : ℕ) → Holds (planOf cells) (rules.node k) g q → (hubOfNode cells k ≡ g) × (portOfNode cells k ≡ q)
 
 pub taken-plan : (text : List ℕ) (nodes hubs at line : ℕ) → TakenAs text nodes hubs at line → TakenPlan (reading text .tables) nodes hubs
 taken-plan text nodes hubs at line t =

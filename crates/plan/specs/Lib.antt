@@ -4,5 +4,6 @@ pub mod Tables
 pub mod Reading
 pub mod Tree
 pub mod Behind
+pub mod Taken
 pub mod Readers
 pub mod PlanReader

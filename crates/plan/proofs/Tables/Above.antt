@@ -6,7 +6,7 @@ use lib.Dec.{eqb, leb}
 use borrow.Author.Tests.{eq-eqb, ne-eqb, le-leb, lt-leb}
 use Rattle.rules.specs.Choice.{if_then_else_}
 use Rattle.plan.specs.Tree.{Port, node, empty, hub, Hub, close, port, portsOf, nodesAt, nodesIn, hubsAt, hubsIn}
-use Rattle.plan.proofs.Tables.Room.{some-hub}
+use Rattle.plan.proofs.Tree.Room.{one-hub}
 
 -- above port Q of hub G, where G is one of the hubs of a port behind n nodes and h hubs; or it is hub g itself, of whose ports those behind q are left, or
 -- one of the hubs there
@@ -59,7 +59,7 @@ mutual
   runs-port node above n h same = tt
   runs-port empty above n h same = tt
   runs-port (hub x) above n h same =
-      runs-hub x above (h + 1) 0 n (h + 1) (omega arith) (λ Q d. same (h + 1) Q (omega arith) (omega (arith, some-hub x)))
+      runs-hub x above (h + 1) 0 n (h + 1) (omega arith) (λ Q d. same (h + 1) Q (omega arith) (omega (arith, one-hub x)))
       (λ G Q d e. same G Q (omega arith) (omega arith))
 
   runs-hub : (x : Hub) (above : ℕ → ℕ → ℕ) (g q n h : ℕ) → g ≤ h → ((Q : ℕ) → q < Q → above g Q ≡ aboveIn x g q n h g Q)
@@ -67,7 +67,7 @@ mutual
   runs-hub close above g q n h u own new = own (q + 1) (omega arith)
   runs-hub (port x y) above g q n h u own new = (
     own (q + 1) (omega arith) ∙ above-here x y g q n h,
-    runs-port x above n h (λ G Q d e. new G Q d (omega (arith, some-hub y)) ∙ above-inside x y g q n h G Q u d e),
+    runs-port x above n h (λ G Q d e. new G Q d (omega (arith, one-hub y)) ∙ above-inside x y g q n h G Q u d e),
     runs-hub y above g (q + 1) (n + nodesAt x) (h + hubsAt x) (omega arith)
         (λ Q d. own Q (omega arith) ∙ above-behind x y g q n h Q d)
         (λ G Q d e. new G Q (omega arith) (omega arith) ∙ above-beyond x y g q n h G Q u d),

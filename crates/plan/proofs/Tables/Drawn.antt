@@ -9,13 +9,15 @@ use Rattle.rules.specs.Drawn.{Within, Drawn}
 use Rattle.plan.specs.Tables.{cells, hubCell, noTable, putRoot, planOf, hubOfNode, portOfNode}
 use Rattle.plan.specs.Reading.{Figures}
 use Rattle.plan.specs.Tree.{Hub, portsOf, nodesIn, hubsIn, limits, goodFigures, Filled, filled, tablesOf}
+use Rattle.plan.specs.Taken.{Holds}
 use Rattle.plan.proofs.Tables.Regions.{hub-later, head-own}
 use Rattle.plan.proofs.Tables.Puts.{cell, figures-other, root-length, root-level}
-use Rattle.plan.proofs.Tables.Room.{Limits, limits-are, root-room, some-hub}
+use Rattle.plan.proofs.Tables.Room.{root-room}
+use Rattle.plan.proofs.Tree.Room.{HubRoom, limits-room, one-hub}
 use Rattle.plan.proofs.Tables.Filling.{counted-hub, kept-hub}
 use Rattle.plan.proofs.Tables.Shown.{HubShows, shown-hub}
 use Rattle.plan.proofs.Tables.Above.{above, above-runs, runs-first, runs-last}
-use Rattle.plan.proofs.Tables.Parts.{Holds, HubGood, HubHangs, NodeStands, Parts, join, only}
+use Rattle.plan.proofs.Tables.Parts.{HubGood, HubHangs, NodeStands, Parts, join, only}
 use Rattle.plan.proofs.Tables.Facts.{shown-ports, parts-hub}
 use Rattle.plan.proofs.Tables.Heads.{nodes-is, hubs-is, figures-good}
 
@@ -42,13 +44,13 @@ module _ (fig : Figures) (x : Hub) where
   unfolding tablesOf
   hubs-are =
       hubs-is (fig .frame) (fig .overhead) (fig .interrupt) (filled x .nodes) (filled x .hubs) (filled x .tables) (filled-full x)
-      ∙ counted-hub x 1 0 1 start .hubs ∙ omega (arith, some-hub x)
+      ∙ counted-hub x 1 0 1 start .hubs ∙ omega (arith, one-hub x)
 
   same : (a : ℕ) → 8 ≤ a → cell (tablesOf fig x) a ≡ cell (filled x .tables) a
   unfolding tablesOf
   same a b = figures-other (filled x .tables) (fig .frame) (fig .overhead) (fig .interrupt) (filled x .nodes) (filled x .hubs) a b
 
-  module _ (lim : Limits x) where
+  module _ (lim : HubRoom x 0 1 0 1) where
     level-one : cell (tablesOf fig x) (hubCell 1 3) ≡ 1
     level-one =
         same (hubCell 1 3) (omega arith)
@@ -71,8 +73,8 @@ module _ (fig : Figures) (x : Hub) where
     unfolding planOf
     root-good =
         record {
-          some-port = omega (arith, root-ports, lim .is-wide .low);
-          few-ports = omega (arith, root-ports, lim .is-wide .up);
+          some-port = omega (arith, root-ports, lim .some);
+          few-ports = omega (arith, root-ports, lim .ports);
           few-levels = omega (arith, level-one);
           ports = λ q b. parts .ports q (b .low) (omega (arith, root-ports, b .up));
         }
@@ -98,13 +100,14 @@ module _ (fig : Figures) (x : Hub) where
 pub drawn : (fig : Figures) (x : Hub) → goodFigures fig ≡ true → limits x ≡ true → Drawn (planOf (tablesOf fig x))
 unfolding planOf tablesOf
 drawn fig x good e =
-    let lim = limits-are x e in
+    let all = limits-room x e in
+    let lim = all .0 in
     record {
       figures = figures-good fig (filled x .nodes) (filled x .hubs) (filled x .tables) (filled-full x) good;
-      some-node = omega (arith, nodes-are fig x, lim .some-node);
-      few-nodes = omega (arith, nodes-are fig x, lim .few-nodes);
-      some-hub = omega (arith, hubs-are fig x, some-hub x);
-      few-hubs = omega (arith, hubs-are fig x, lim .few-hubs);
+      some-node = omega (arith, nodes-are fig x, all .1);
+      few-nodes = omega (arith, nodes-are fig x, lim .inNodes);
+      some-hub = omega (arith, hubs-are fig x, one-hub x);
+      few-hubs = omega (arith, hubs-are fig x, lim .inHubs);
       some-port = λ g b. hub-good fig x lim g b .some-port;
       few-ports = λ g b. hub-good fig x lim g b .few-ports;
       few-levels = λ g b. hub-good fig x lim g b .few-levels;
@@ -121,9 +124,9 @@ drawn fig x good e =
 -- the port that node k's own cells name is a port of the plan, and holds node k
 pub node-stands : (fig : Figures) (x : Hub) → limits x ≡ true → (k : ℕ) → Within (planOf (tablesOf fig x) .nodes) k
     → Holds (planOf (tablesOf fig x)) (rules.node k) (hubOfNode (tablesOf fig x) k) (portOfNode (tablesOf fig x) k)
-node-stands fig x e k b = stands fig x (limits-are x e) k b
+node-stands fig x e k b = stands fig x (limits-room x e .0) k b
 
 -- and no other port does
 pub node-only : (fig : Figures) (x : Hub) → limits x ≡ true → (k g q : ℕ) → Holds (planOf (tablesOf fig x)) (rules.node k) g q
     → (hubOfNode (tablesOf fig x) k ≡ g) × (portOfNode (tablesOf fig x) k ≡ q)
-node-only fig x e k g q a = hub-good fig x (limits-are x e) g (a .hub) .ports q (a .place) .back k (a .port)
+node-only fig x e k g q a = hub-good fig x (limits-room x e .0) g (a .hub) .ports q (a .place) .back k (a .port)

@@ -8,11 +8,13 @@ use Rattle.rules.specs.Plan as rules
 use Rattle.rules.specs.Drawn.{Covers, Hung}
 use Rattle.plan.specs.Tables.{hubCell, portCell, hub-code, portOf, planOf, hubOfNode, portOfNode}
 use Rattle.plan.specs.Tree.{Port, node, empty, hub, Hub, close, port, portsOf, nodesAt, nodesIn, hubsAt, hubsIn, levelsAt}
+use Rattle.plan.specs.Taken.{Holds}
 use Rattle.plan.proofs.Tables.Puts.{cell}
-use Rattle.plan.proofs.Tables.Room.{Room, RoomAt, some-hub, some-level, first-room, rest-room, inner-room, inner-wide}
+use Rattle.plan.proofs.Tables.Room.{Room, RoomAt, first-room, rest-room, inner-room}
+use Rattle.plan.proofs.Tree.Room.{one-hub, one-level}
 use Rattle.plan.proofs.Tables.Shown.{NodeShown, HubShown, PortShows, HubShows}
 use Rattle.plan.proofs.Tables.Above.{PortRuns, HubRuns, runs-first, runs-last}
-use Rattle.plan.proofs.Tables.Parts.{Holds, holds-at, PortGood, HubHangs, NodeStands, Parts, parts-join, parts-to, join, only}
+use Rattle.plan.proofs.Tables.Parts.{holds-at, PortGood, HubHangs, NodeStands, Parts, parts-join, parts-to, join, only}
 
 -- a port's cell
 port-node : (k : ℕ) → 1 ≤ k → k ≤ hub-code → portOf k ≡ rules.node k
@@ -70,7 +72,7 @@ module _ (x : Hub) (t : List ℕ) (above : ℕ → ℕ → ℕ) (g q l n h : ℕ
     unfolding planOf
     new-hung =
         record {
-          number = record { low = omega arith; up = omega (arith, a .hubs, some-hub x) };
+          number = record { low = omega arith; up = omega (arith, a .hubs, one-hub x) };
           below = omega arith;
           parent = s .parent;
           place = s .place;
@@ -100,13 +102,13 @@ module _ (x : Hub) (t : List ℕ) (above : ℕ → ℕ → ℕ) (g q l n h : ℕ
         new-hub : HubHangs t above (h + 1)
         unfolding planOf levelsAt
         new-hub =
-            let w = inner-wide x g (q + 1) l n h r in
+            let w = inner-room x g (q + 1) l n h r .room in
             record {
               good =
                   record {
                     some-port = omega arith;
                     few-ports = omega arith;
-                    few-levels = omega (arith, s .level, r .levels, some-level x);
+                    few-levels = omega (arith, s .level, r .room .atLevels, one-level x);
                     ports = λ k b. inner .ports k (b .low) (omega arith);
                   };
               hangs = new-hangs;
@@ -131,7 +133,7 @@ mutual
       → Parts t above g q (q + 1) h (h + hubsAt x) n (n + nodesAt x)
   parts-port node t above g q l n h r a s u first next =
       record {
-        ports = only (λ k. PortGood t above g k) q (q + 1) (omega arith) (node-good t above g (q + 1) n first next (r .nodes) s);
+        ports = only (λ k. PortGood t above g k) q (q + 1) (omega arith) (node-good t above g (q + 1) n first next (r .room .atNodes) s);
         hubs = λ k d e. absurd (omega arith);
         nodes =
             only (λ k. NodeStands t k) n (n + 1) (omega arith)
@@ -139,7 +141,7 @@ mutual
             (record {
               hub = record { low = r .hub-low; up = omega arith };
               place = record { low = omega arith; up = a .ports };
-              port = ap portOf (s .port) ∙ port-node (n + 1) (omega arith) (r .nodes);
+              port = ap portOf (s .port) ∙ port-node (n + 1) (omega arith) (r .room .atNodes);
             }));
       }
   parts-port empty t above g q l n h r a s u first next =
@@ -161,7 +163,7 @@ mutual
       parts-to (q + (1 + portsOf y)) (h + (hubsAt x + hubsIn y) - 1) (n + (nodesAt x + nodesIn y)) (omega arith) (omega arith) (omega arith)
       (parts-join
       (parts-port x t above g q l n h (first-room x y g q l n h r)
-      (record { level = a .level; ports = omega arith; hubs = omega (arith, a .hubs, some-hub y) }) (s .0) (u .1) (u .0)
+      (record { level = a .level; ports = omega arith; hubs = omega (arith, a .hubs, one-hub y) }) (s .0) (u .1) (u .0)
       (runs-first y above g (q + 1) (n + nodesAt x) (h + hubsAt x) (u .2)))
       (parts-hub y t above g (q + 1) l (n + nodesAt x) (h + hubsAt x) (rest-room x y g q l n h r)
       (record { level = a .level; ports = omega arith; hubs = omega (arith, a .hubs) }) (s .1) (u .2)))

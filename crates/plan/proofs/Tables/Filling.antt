@@ -7,7 +7,8 @@ use Rattle.plan.specs.Tables.{portCell, putHub}
 use Rattle.plan.specs.Tree.{Port, node, empty, hub, Hub, close, port, nodesAt, nodesIn, hubsAt, hubsIn, Filled, fillPort, fillHub}
 use Rattle.plan.proofs.Tables.Regions.{Later, Own, later-more, own-more, own-new}
 use Rattle.plan.proofs.Tables.Puts.{cell, empty-length, node-length, hub-length, ports-length, empty-other, node-other, hub-other, ports-other}
-use Rattle.plan.proofs.Tables.Room.{Room, RoomAt, some-hub, first-room, rest-room, inner-room}
+use Rattle.plan.proofs.Tables.Room.{Room, RoomAt, first-room, rest-room, inner-room}
+use Rattle.plan.proofs.Tree.Room.{one-hub}
 
 -- n nodes and h hubs more, and as many cells
 pub record Counted (s : Filled) (n h : ℕ) (t : Filled) : Type 0 where
@@ -26,7 +27,7 @@ mutual
       let c = counted-hub x (s .hubs + 1) 0 (l + 1) t in
       record {
         nodes = c .nodes;
-        hubs = omega (arith, some-hub x, c .hubs);
+        hubs = omega (arith, one-hub x, c .hubs);
         length = c .length ∙ hub-length (s .tables) g q (s .hubs + 1) (l + 1);
       }
 
@@ -35,7 +36,7 @@ mutual
   counted-hub (port x y) g q l s =
       let c = counted-port x g (q + 1) l s in
       let d = counted-hub y g (q + 1) l (fillPort x g (q + 1) l s) in
-      record { nodes = omega (arith, c .nodes, d .nodes); hubs = omega (arith, some-hub y, c .hubs, d .hubs); length = d .length ∙ c .length }
+      record { nodes = omega (arith, c .nodes, d .nodes); hubs = omega (arith, one-hub y, c .hubs, d .hubs); length = d .length ∙ c .length }
 
 -- the room behind the first port, once it is filled
 pub next-room : (x : Port) (y : Hub) (g q l : ℕ) (s : Filled) → Room (port x y) g q l (s .nodes) (s .hubs)
@@ -50,11 +51,11 @@ mutual
   pub kept-port : (x : Port) (g q l : ℕ) (s : Filled) (a : ℕ) → RoomAt x g q l (s .nodes) (s .hubs) → Later (s .nodes) (s .hubs) a
       → (a ≡ portCell g q → ⊥) → cell (fillPort x g q l s .tables) a ≡ cell (s .tables) a
   kept-port node g q l s a r f d =
-      node-other (s .tables) g q (s .nodes + 1) a d (λ i. f .nodes (s .nodes + 1) i (omega arith) (r .nodes))
+      node-other (s .tables) g q (s .nodes + 1) a d (λ i. f .nodes (s .nodes + 1) i (omega arith) (r .room .atNodes))
   kept-port empty g q l s a r f d = empty-other (s .tables) g q a d
   kept-port (hub x) g q l s a r f d =
       let t : Filled = record { nodes = s .nodes; hubs = s .hubs + 1; tables = putHub g q (s .hubs + 1) (l + 1) (s .tables) } in
-      let b : s .hubs < 32 = omega (arith, some-hub x, r .hubs) in
+      let b : s .hubs < 32 = omega (arith, one-hub x, r .room .atHubs) in
       kept-hub x (s .hubs + 1) 0 (l + 1) t a (inner-room x g q l (s .nodes) (s .hubs) r) (later-more f (omega arith) (omega arith)) (own-new f b)
       ∙ hub-other (s .tables) g q (s .hubs + 1) (l + 1) a d (λ i. f .hubs (s .hubs + 1) i (omega arith) (omega arith))
 

@@ -13,7 +13,7 @@ use Rattle.plan.specs.Tables.{cells, planOf, putFigures}
 use Rattle.plan.specs.Reading.{Figures}
 use Rattle.plan.specs.Tree.{goodFigures}
 use Rattle.plan.proofs.Tables.Puts.{cell}
-use Rattle.plan.proofs.Tables.Room.{both}
+use Rattle.text.proofs.Words.{both}
 
 set-behind : (s : List ℕ) (i j v : ℕ) → j < i → cell (set s i v) j ≡ cell s j
 set-behind s i j v d = getD-set-other s i j v 0 (λ e. omega arith)

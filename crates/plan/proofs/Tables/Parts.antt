@@ -9,12 +9,7 @@ use borrow.Author.Tests.{leb-true, leb-false}
 use Rattle.rules.specs.Plan as rules
 use Rattle.rules.specs.Drawn.{Within, Covers}
 use Rattle.plan.specs.Tables.{planOf, hubOfNode, portOfNode}
-
--- port q of hub g is a port of the plan, and x stands there
-pub record Holds (p : rules.Plan) (x : rules.Port) (g q : ℕ) : Type 0 where
-  pub hub : Within (p .hubs) g
-  pub place : Within (p .ports g) q
-  pub port : p .port g q ≡ x
+use Rattle.plan.specs.Taken.{Holds}
 
 pub holds-at : {p : rules.Plan} {x : rules.Port} {g q h r : ℕ} → h ≡ g → r ≡ q → Holds p x g q → Holds p x h r
 holds-at {p} {x} e f a = subst₂ (λ (i j : ℕ). Holds p x i j) (sym e) (sym f) a

@@ -9,7 +9,8 @@ use Rattle.plan.specs.Tables.{cells, hubCell, portCell, nodeCell, hub-co
 use Rattle.plan.specs.Tree.{Port, node, empty, hub, Hub, close, port, nodesAt, hubsAt, Filled, fillPort, fillHub}
 use Rattle.plan.proofs.Tables.Regions.{Later, Own, Lower, hub-later, node-later, port-own, head-own, hub-own, node-own, hub-lower, node-lower, lower-before, lower-own, later-more}
 use Rattle.plan.proofs.Tables.Puts.{cell, hub-length, empty-port, ports-count, node-port, node-hub, node-place, hub-port, hub-parent, hub-place, hub-level}
-use Rattle.plan.proofs.Tables.Room.{Room, RoomAt, few-hubs, some-hub, first-room, inner-room}
+use Rattle.plan.proofs.Tables.Room.{Room, RoomAt, few-hubs, first-room, inner-room}
+use Rattle.plan.proofs.Tree.Room.{one-hub}
 use Rattle.plan.proofs.Tables.Filling.{counted-port, counted-hub, next-room, kept-hub}
 
 -- node k stands at port q of hub g
@@ -50,9 +51,9 @@ node-shown t g q l s r full same =
       port =
           same (portCell g q) (hub-later k (s .hubs) g (3 + q) (r .hub-low) (r .hub-up) few (omega arith)) (port-own g q q (omega arith) (r .port-low))
           (hub-lower g g (3 + q) (omega arith))
-          ∙ node-port (s .tables) full g q k (r .hub-low) few (r .port-up) (omega arith) (r .nodes);
-      of-hub = at 0 (omega arith) ∙ node-hub (s .tables) full g q k (r .hub-low) few (r .port-up) (omega arith) (r .nodes);
-      of-port = at 1 (omega arith) ∙ node-place (s .tables) full g q k (r .hub-low) few (r .port-up) (omega arith) (r .nodes);
+          ∙ node-port (s .tables) full g q k (r .hub-low) few (r .port-up) (omega arith) (r .room .atNodes);
+      of-hub = at 0 (omega arith) ∙ node-hub (s .tables) full g q k (r .hub-low) few (r .port-up) (omega arith) (r .room .atNodes);
+      of-port = at 1 (omega arith) ∙ node-place (s .tables) full g q k (r .hub-low) few (r .port-up) (omega arith) (r .room .atNodes);
     }
 
 -- a hub's own cells, which the filling of its ports keeps
@@ -63,7 +64,7 @@ hub-shown : (x : Hub) (t : List ℕ) (g q l : ℕ) (s : Filled) → RoomAt (hub 
 unfolding hubsAt
 hub-shown x t g q l s r full same =
     let h = s .hubs + 1 in
-    let few : h ≤ 32 = omega (arith, some-hub x, r .hubs) in
+    let few : h ≤ 32 = omega (arith, one-hub x, r .room .atHubs) in
     let at : (i : ℕ) → 1 ≤ i → i ≤ 3 → cell t (hubCell h i) ≡ cell (putHub g q h (l + 1) (s .tables)) (hubCell h i) =
     λ i j k.
     same (hubCell h i) (hub-later (s .nodes) h h i (omega arith) (omega arith) few (omega arith)) (head-own h 0 i j k)

@@ -13,17 +13,11 @@ use Rattle.plan.specs.Tables.{noTable, putRoot}
 use Rattle.plan.specs.Reading.{Read, Figures, next, rootLine, interruptLine, overheadLine, frameLine, reading}
 use Rattle.plan.specs.Tree.{Hub, draw, nodesIn, hubsIn, limits, goodFigures, Filled, filled, tablesOf}
 use Rattle.plan.specs.Behind.{linesOf, pastFigures, past}
+use Rattle.plan.specs.Taken.{TakenFor}
 use Rattle.plan.proofs.Tree.Room.{limits-room}
 use Rattle.plan.proofs.Tree.Count.{nodes-in, hubs-in, count-lines, behind-draw}
 use Rattle.plan.proofs.Tree.Drawn.{shut, hub-drawn}
 use Rattle.plan.proofs.Tree.Figures.{good-ranges, figure-drawn}
-
--- the text is taken for this tree, and `rest` is what stands behind it
-pub record TakenFor (text : List ℕ) (fig : Figures) (h : Hub) (rest : Lines) : Type 0 where
-  pub answer : reading text .answer ≡ Taken (nodesIn h) (hubsIn h) (past fig h .at) (past fig h .number)
-  pub tables : reading text .tables ≡ tablesOf fig h
-  pub behind : lines (drop (past fig h .at) text) ≡ rest
-  pub number : 1 + linesOf h < 2 ^ 64 → past fig h .number ≡ 1 + linesOf h
 
 module _ (fig : Figures) (h : Hub) (rest : Lines) (good : goodFigures fig ≡ true) (within : limits h ≡ true) where
   reading-drawn : (text : List ℕ) → lines text ≡ draw fig h rest → reading text ≡ shut fig [] rest (past fig h) (filled h)

@@ -11,7 +11,7 @@ use Rattle.text.proofs.Forms.{read-drawn}
 use Rattle.plan.specs.Kind.{frame-word, overhead-word, interrupt-word, close-word, hub-word}
 use Rattle.plan.specs.Tree.{Port, node, empty, hub, Hub, close, port, drawPort, drawHub, draw}
 use Rattle.plan.proofs.Tree.Figures.{good-ranges}
-use Rattle.plan.proofs.Tree.TakenDrawn.{DrawnBy}
+use Rattle.plan.specs.Taken.{DrawnBy}
 
 -- the words of a tree's lines have different lengths
 abbrev size : Lines → ℕ

@@ -10,23 +10,9 @@ use Rattle.plan.specs.declared.Answer.the-variants.{Taken, Refused}
 use Rattle.plan.specs.Reading.{reading}
 use Rattle.plan.specs.Tree.{nodesIn, hubsIn, tablesOf}
 use Rattle.plan.specs.Behind.{past}
-use Rattle.plan.proofs.Tree.DrawnTaken.{TakenFor, drawn-taken}
-use Rattle.plan.proofs.Tree.TakenDrawn.{DrawnBy, taken-drawn}
-
--- the text is taken with these numbers of nodes and hubs, and the events start at this place and line
-abbrev pub TakenAs : List ℕ → ℕ → ℕ → ℕ → ℕ → Type 0
-TakenAs text nodes hubs at line = reading text .answer ≡ Taken nodes hubs at line
-
-abbrev pub RefusedAt : List ℕ → ℕ → ℕ → Type 0
-RefusedAt text line number = reading text .answer ≡ Refused line number
-
--- the numbers and the tables are those of the tree that is drawn
-pub record OfTree (text : List ℕ) (nodes hubs at line : ℕ) (d : DrawnBy text) : Type 0 where
-  pub sameNodes : nodes ≡ nodesIn (d .tree)
-  pub sameHubs : hubs ≡ hubsIn (d .tree)
-  pub samePlace : at ≡ past (d .fig) (d .tree) .at
-  pub sameLine : line ≡ past (d .fig) (d .tree) .number
-  pub sameTables : reading text .tables ≡ tablesOf (d .fig) (d .tree)
+use Rattle.plan.specs.Taken.{DrawnBy, TakenAs, RefusedAt, TakenFor, OfTree}
+use Rattle.plan.proofs.Tree.DrawnTaken.{drawn-taken}
+use Rattle.plan.proofs.Tree.TakenDrawn.{taken-drawn}
 
 module _ (text : List ℕ) where
   pub drawing-taken : (d : DrawnBy text) → TakenFor text (d .fig) (d .tree) (d .rest)

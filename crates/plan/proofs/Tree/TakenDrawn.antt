@@ -26,6 +26,7 @@ use Rattle.plan.specs.Reading as reading
 use Rattle.plan.specs.Reading.{Figures, next, refusal, onLine, figure, isHub, begun, hubLines, rootLine, interruptLine, overheadLine, frameLine}
 use Rattle.plan.specs.Readers.{Done′, hubReader}
 use Rattle.plan.specs.Tree.{Hub, draw, drawHub, limits, goodFigures}
+use Rattle.plan.specs.Taken.{DrawnBy}
 use Rattle.plan.proofs.Tree.Room.{room-limits}
 use Rattle.plan.proofs.Agree.{first, over, hub-agrees}
 use Rattle.plan.proofs.Tree.Trees.{Drawing, kind-line, HubRead, TreeRead, hub-tree}
@@ -161,15 +162,6 @@ module _ (n m at line : ℕ) where
     root-taken c early t =
         let r = line-taken (lines (drop (c .at) text)) c _ t in
         opened c (r .0) (r .1) (r .2) early (isHub (kindOf (r .0))) refl (r .3)
-
--- the text starts with the drawing of this tree, behind these figures
-pub record DrawnBy (text : List ℕ) : Type 0 where
-  pub fig : Figures
-  pub tree : Hub
-  pub rest : Lines
-  pub good : goodFigures fig ≡ true
-  pub within : limits tree ≡ true
-  pub drawn : lines text ≡ draw fig tree rest
 
 module _ (text : List ℕ) (n m at line : ℕ) where
   abbrev start : Cursor
