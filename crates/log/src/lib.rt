@@ -1,0 +1,76 @@
+// The log's first line: a text is read as a plan, and the line that says so is written into a lent buffer. No public function has a `requires`: each
+// says its whole answer and the whole of what is lent to it, for every input, by a definition of specs/.
+use plan::Answer;
+use plan::Plan;
+use writer::Put;
+ghost use mathlib.Core.Path.{_≡_};
+ghost use lib.ListN.{length, take};
+ghost use Rattle.plan.specs.Reading.{reading, leaves};
+ghost use Rattle.writer.specs.Write.{putAnswer, putBuffer};
+ghost use Rattle.log.specs.Handed.{handed};
+ghost use Rattle.log.specs.FirstLine.{nodesHead, nodesLine, firstLine};
+
+// The part of a text that is read: its first 65,536 bytes.
+pub fn handed(text: &[u8]) -> &[u8]
+    ensures { λ r. ⌜ now r ≡ handed (now (text .entry)) ⌝ }
+{
+    if text.len() <= 65536 {
+        return text;
+    }
+    &text[..65536]
+}
+
+// `(nodes N hubs` at the front of an array, which has room for it whatever N is; how many bytes it has.
+fn nodes_head(nodes: u32, head: &mut [u8; 32]) -> usize
+    ensures { λ r. ⌜ (r ≡ length (nodesHead nodes)) × (take r (now (head .exit)) ≡ nodesHead nodes) ⌝ }
+{
+    let Put::Behind(number) = writer::put_word(head, 0, b"(nodes ") else {
+        return 0;
+    };
+    let Put::Behind(word) = writer::put_number(head, number, nodes as u64) else {
+        return 0;
+    };
+    let Put::Behind(end) = writer::put_word(head, word, b" hubs") else {
+        return 0;
+    };
+    end
+}
+
+// `(nodes N hubs H)` and LF into the buffer from `at` on, or nothing.
+fn nodes_line(nodes: u32, hubs: u32, buffer: &mut [u8], at: usize) -> Put
+    ensures { λ r. ⌜ (r ≡ putAnswer (now (buffer .entry)) at (nodesLine nodes hubs)) × (now (buffer .exit) ≡ putBuffer (now (buffer .entry)) at (nodesLine nodes hubs)) ⌝ }
+{
+    let mut head = [0u8; 32];
+    let end = nodes_head(nodes, &mut head);
+    let numbers = [hubs as u64];
+    writer::put_form(buffer, at, &head[..end], &numbers)
+}
+
+// The line of a plan's answer into the buffer from `at` on, or nothing.
+pub fn first_line(answer: Answer, buffer: &mut [u8], at: usize) -> Put
+    ensures { λ r. ⌜ r ≡ putAnswer (now (buffer .entry)) at (firstLine answer) ⌝ }
+    ensures { λ r. ⌜ now (buffer .exit) ≡ putBuffer (now (buffer .entry)) at (firstLine answer) ⌝ }
+{
+    match answer {
+        Answer::Taken {
+            nodes,
+            hubs,
+            at: _,
+            line: _,
+        } => nodes_line(nodes, hubs, buffer, at),
+        Answer::Refused { line, number } => {
+            let numbers = [line as u64, number as u64];
+            writer::put_form(buffer, at, b"(refused", &numbers)
+        }
+    }
+}
+
+// A text is read as a plan, and its line is written. A taken plan's tables stand in `plan`; a refused one leaves it as it was.
+pub fn plan_line(text: &[u8], plan: &mut Plan, buffer: &mut [u8], at: usize) -> Put
+    ensures { λ r. ⌜ r ≡ putAnswer (now (buffer .entry)) at (firstLine (reading (handed (now (text .entry))) .answer)) ⌝ }
+    ensures { λ r. ⌜ now (plan .exit) ≡ leaves (reading (handed (now (text .entry)))) (now (plan .entry)) ⌝ }
+    ensures { λ r. ⌜ now (buffer .exit) ≡ putBuffer (now (buffer .entry)) at (firstLine (reading (handed (now (text .entry))) .answer)) ⌝ }
+{
+    let answer = plan::read(handed(text), plan);
+    first_line(answer, buffer, at)
+}
