@@ -24,7 +24,7 @@ use Rattle.plan.specs.Kind.{kindOf}
 use Rattle.plan.specs.Tables.{putEmpty, putNode, putHub, putPorts, putFigures}
 use Rattle.plan.specs.Reading as reading
 use Rattle.plan.specs.Reading.{Open, Progress, Figures, hubLines, passes, byKind, refusal, next}
-use Rattle.plan.specs.Readers.{Done′, stop, read, cursor, moved, withNode, withHub, behindPort, onKind, onNext, hubReader}
+use Rattle.plan.specs.Readers.{Answered, stop, read, cursor, moved, withNode, withHub, behindPort, onKind, onNext, hubReader}
 use Rattle.plan.specs.PlanReader.{refused}
 
 -- the first line at a cursor, by its bytes, and the lines behind it
@@ -73,7 +73,7 @@ module _ (fig : Figures) (text : List ℕ) where
   Moves at (Stopped line number) k = Unit {0}
 
   -- reading r of the lines at place `at`, within a hub inside os, is what the reader's answer d says
-  pub record Agrees (os : List Open) (at : ℕ) (r : reading.Read) (d : Done′) : Type 0 where
+  pub record Agrees (os : List Open) (at : ℕ) (r : reading.Read) (d : Answered) : Type 0 where
     pub last : ℕ
     pub same : r ≡ over os last (d .part) (d .tables)
     pub moves : Moves at (d .part) last
@@ -88,18 +88,18 @@ module _ (fig : Figures) (text : List ℕ) where
 
   module _ (os : List Open) (at : ℕ) where
     -- from a later place on
-    later : (y : ℕ) (r : reading.Read) (d : Done′) → at < y → Agrees os y r d → Agrees os at r d
+    later : (y : ℕ) (r : reading.Read) (d : Answered) → at < y → Agrees os y r d → Agrees os at r d
     later y r d h a = record { last = a .last; same = a .same; moves = moves-from at y (a .last) (d .part) h (a .moves) }
 
     -- a test that both make; w is what is done behind it
-    guarded : (w : Done′ → Done′) (b : Bool) (line : ℕ) (t : List ℕ) (r : reading.Read) (d : Done′)
+    guarded : (w : Answered → Answered) (b : Bool) (line : ℕ) (t : List ℕ) (r : reading.Read) (d : Answered)
         → Agrees os at (refused line 3) (w (stop line 3 t)) → (b ≡ false → Agrees os at r (w d))
         → Agrees os at (if b then refused line 3 else r) (w (if b then stop line 3 t else d))
     guarded w true line t r d over a = over
     guarded w false line t r d over a = a refl
 
     -- a hub within hub o, and then the ports of o behind it
-    behind-hub : (more : Place → List ℕ → Done′) (o : Open) (r : reading.Read) (p : Part) (t : List ℕ) → Agrees (o ∷ os) at r (record { part = p; tables = t })
+    behind-hub : (more : Place → List ℕ → Answered) (o : Open) (r : reading.Read) (p : Part) (t : List ℕ) → Agrees (o ∷ os) at r (record { part = p; tables = t })
         → ((y : Place) (k : ℕ) → Onward at y k
         → Agrees os (y .at) (hubLines fig (lines (drop (y .at) text)) (cursor y) (progress o os y t)) (more y t))
         → Agrees os at r (behindPort more (record { part = p; tables = t }))
@@ -137,10 +137,10 @@ module _ (fig : Figures) (text : List ℕ) where
       abbrev behind : Place
       behind = moved (next (cursor x) l) x
 
-      abbrev inner : Place → ℕ → ℕ → List ℕ → Done′
+      abbrev inner : Place → ℕ → ℕ → List ℕ → Answered
       inner = λ y h below u. hubReader text left y h 0 below u
 
-      abbrev more : Place → List ℕ → Done′
+      abbrev more : Place → List ℕ → Answered
       more = λ y u. hubReader text left y g (q + 1) levels u
 
       behind-moves : Onward (x .at) behind (x .number)
@@ -174,7 +174,7 @@ module _ (fig : Figures) (text : List ℕ) where
       opened some =
           let level : most-levels + 1 - levels ≡ length os + 2 = omega arith in
           let u : List ℕ = putHub g (q + 1) (x .hubs + 1) (length os + 2) t in
-          let d : Done′ = inner (withHub behind) (x .hubs + 1) (levels - 1) u in
+          let d : Answered = inner (withHub behind) (x .hubs + 1) (levels - 1) u in
           rw level
           (behind-hub os (x .at) more (open-at g (q + 1)) _ (d .part) (d .tables)
           (added (x .nodes) (x .hubs + 1) (x .hubs + 1) 0 (open-at g (q + 1) ∷ os) (levels - 1) u (omega arith))

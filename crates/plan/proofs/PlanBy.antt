@@ -20,7 +20,7 @@ use Rattle.plan.specs.Kind.{kindOf, frame-word, overhead-word, interrupt
 use Rattle.plan.specs.Tables.{noTable, putRoot}
 use Rattle.plan.specs.Reading as reading
 use Rattle.plan.specs.Reading.{Figures, next, refusal, onLine, figure, isHub, begun, hubLines, rootLine, interruptLine, overheadLine, frameLine}
-use Rattle.plan.specs.Readers.{Done′, hubReader}
+use Rattle.plan.specs.Readers.{Answered, hubReader}
 use Rattle.plan.specs.PlanReader.{figureOf, figureIn, figureAt, rootIn, rootAt, planOver, behindFigure, behindRoot, hubAt, interruptAt, overheadAt, planBy}
 use Rattle.plan.proofs.Agree.{First, first, over, Moves, hub-agrees}
 
@@ -74,7 +74,7 @@ module _ (text : List ℕ) (left : ℕ) (enough : length text ≤ left) (fits : 
   unfolding rootLine rootAt nextLine handOut
   root-agrees fig c early = go (lines (drop (c .at) text)) refl
     where
-      more : Place → Done′
+      more : Place → Answered
       more x = hubReader text left x 1 0 4 (putRoot noTable)
 
       begins : (b : Bool) (l : List ℕ) (rest : Lines) → First text c l rest → (b ≡ true → 1 ≤ length l)

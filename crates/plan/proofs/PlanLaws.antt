@@ -31,7 +31,7 @@ use Rattle.plan.proofs.PlanBy.{plan-agrees}
 use Rattle.plan.specs.Tables.{noTable, putRoot, putFigures}
 use Rattle.plan.specs.Reading.{Figures, isHub}
 use Rattle.plan.specs.Reading as reading
-use Rattle.plan.specs.Readers.{Done′, hubReader}
+use Rattle.plan.specs.Readers.{Answered, hubReader}
 use Rattle.plan.specs.PlanReader.{inRange, figureAt, figureOf, figureIn, rootAt, hubAt, interruptAt, overheadAt, planBy, refused, planOver, behindRoot}
 
 module _ (text : List ℕ) (c : Cursor) where
@@ -99,7 +99,7 @@ module _ (text : List ℕ) (left : ℕ) (fig : Figures) (c : Cursor) where
   root-stopped line number e = rw e
 
   module _ (x : Place) (root : rootAt text c ≡ Read x) where
-    abbrev hub-done : Done′
+    abbrev hub-done : Answered
     hub-done = hubReader text left x 1 0 4 (putRoot noTable)
 
     over : hubAt text left fig c ≡ planOver fig hub-done

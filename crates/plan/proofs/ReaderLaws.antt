@@ -18,7 +18,7 @@ use Rattle.plan.specs.declared.Place.{Place}
 use Rattle.plan.specs.declared.Part.{Part}
 use Rattle.plan.specs.declared.Part.the-variants.{Read, Stopped}
 use Rattle.plan.specs.Kind.{kindOf}
-use Rattle.plan.specs.Readers.{Done′, stop, read, cursor, moved, hubReader, portReader, portBy, closing, behindPort, isClose}
+use Rattle.plan.specs.Readers.{Answered, stop, read, cursor, moved, hubReader, portReader, portBy, closing, behindPort, isClose}
 
 -- a reader behind the first line that is left
 one-less : (left : ℕ) → (left ≡ 0 → ⊥) → left ≡ suc (left - 1)
@@ -44,7 +44,7 @@ module _ (text : List ℕ) (left : ℕ) (x : Place) (g q levels : ℕ) (s : List
       closes k = rw (one-less left some, line, k)
 
       module _ (kind : Kind) (is : kindOf (part text start end) ≡ kind) (more : isClose kind ≡ false) where
-        abbrev port-done : Done′
+        abbrev port-done : Answered
         port-done = portReader text (left - 1) kind number (moved next x) g q levels s
 
         one-line : hubReader text (suc (left - 1)) x g q levels s ≡ behindPort (λ y t. hubReader text (left - 1) y g (q + 1) levels t) port-done
@@ -62,7 +62,7 @@ module _ (text : List ℕ) (left : ℕ) (x : Place) (g q levels : ℕ) (s : List
         port-read z e = goes-on ∙ rw (e, behindPort)
 
 -- the port reader reads no port behind the last one
-module _ (inner : Place → ℕ → ℕ → List ℕ → Done′) (line : ℕ) (x : Place) (g q levels : ℕ) (s : List ℕ) (z : Place) where
+module _ (inner : Place → ℕ → ℕ → List ℕ → Answered) (line : ℕ) (x : Place) (g q levels : ℕ) (s : List ℕ) (z : Place) where
   pub room : (kind : Kind) → portBy inner kind line x g q levels s .part ≡ Read z → q < 32
   room kind e = go (which (leb 32 q)) kind e
     where

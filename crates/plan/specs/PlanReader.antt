@@ -5,6 +5,7 @@ use mathlib.Core.Bool.{_&&_}
 use mathlib.Core.List.{List, []}
 use lib.Dec.{eqb, leb}
 use Rattle.rules.specs.Choice.{if_then_else_}
+use Rattle.rules.specs.Plan.{longest-packet}
 use Rattle.text.specs.Line.{nextLine}
 use Rattle.text.specs.Part.{part}
 use Rattle.text.specs.Form.{formAt}
@@ -23,7 +24,7 @@ use Rattle.plan.specs.Kind.{kindOf, frame-word, overhead-word, interrupt
 use Rattle.plan.specs.Tables.{noTable, putRoot, putFigures}
 use Rattle.plan.specs.Reading.{Figures, isHub}
 use Rattle.plan.specs.Reading as reading
-use Rattle.plan.specs.Readers.{Done′, stop, hubReader}
+use Rattle.plan.specs.Readers.{Answered, stop, hubReader}
 
 abbrev pub refused : ℕ → ℕ → reading.Read
 refused line number = record { answer = Refused line number; tables = [] }
@@ -59,7 +60,7 @@ unfoldable pub rootAt : List ℕ → Cursor → Part
 rootAt text c = rootIn text (nextLine text c)
 
 -- the root was read up to a place: without a node its last line, the one before that place, is refused
-abbrev pub planOver : Figures → Done′ → reading.Read
+abbrev pub planOver : Figures → Answered → reading.Read
 planOver fig d =
     elim (d .part) [
       | Read y ↦
@@ -76,7 +77,7 @@ abbrev pub behindFigure : Figure → (ℕ → Cursor → reading.Read) → readi
 behindFigure (Got x next) more = more x next
 behindFigure (Not line number) more = refused line number
 
-abbrev pub behindRoot : Part → (Place → Done′) → Done′
+abbrev pub behindRoot : Part → (Place → Answered) → Answered
 behindRoot (Read x) more = more x
 behindRoot (Stopped line number) more = stop line number []
 
@@ -87,7 +88,7 @@ module _ (text : List ℕ) (left : ℕ) where
 
   abbrev pub interruptAt : ℕ → ℕ → Cursor → reading.Read
   interruptAt T O c =
-      behindFigure (figureAt text c interrupt-word (12000 + O) T)
+      behindFigure (figureAt text c interrupt-word (longest-packet + O) T)
       (λ D next. hubAt (record { frame = T; overhead = O; interrupt = D }) next)
 
   abbrev pub overheadAt : ℕ → Cursor → reading.Read

@@ -6,7 +6,7 @@ use mathlib.Core.Option.{Option, none, some}
 use lib.Dec.{eqb, leb, ltb}
 use lib.ListN.{length, getD}
 use Rattle.rules.specs.Choice.{if_then_else_}
-use Rattle.rules.specs.Plan.{most-hubs, most-ports, most-nodes, most-levels}
+use Rattle.rules.specs.Plan.{longest-packet, most-hubs, most-ports, most-nodes, most-levels}
 use Rattle.text.specs.Line.{Lines, nothing, unended, ended, lines, nextNumber}
 use Rattle.text.specs.Form.{readForm}
 use Rattle.text.specs.declared.Cursor.{Cursor}
@@ -61,7 +61,7 @@ pub record Figures : Type 0 where
 abbrev pub oneMore : Open → Open
 oneMore o = record { hub = o .hub; ports = o .ports + 1 }
 
--- a limit is passed by one more port of this kind: row 3
+-- row 3: one more port of this kind passes a limit of the tree, or a `)` closes a hub without ports
 abbrev pub passes : Kind → Progress → Bool
 passes Close s = eqb (s .inner .ports) 0
 passes Node s = leb most-ports (s .inner .ports) || leb most-nodes (s .nodes)
@@ -126,11 +126,12 @@ closeRoot fig c l s =
     })
 
 module _ (fig : Figures) where
-  -- one line of kind `kind` inside the root hub; `more` reads the rest
+  -- a hub is closed: the root, or one inside hub o; `more` reads the rest
   abbrev pub closed : List Open → (Progress → Read) → Cursor → List ℕ → Progress → Read
   closed [] more c l s = closeRoot fig c l s
   closed (o ∷ os) more c l s = more (closeHub o os s)
 
+  -- what a line of each kind does; one of no kind is not the form allowed here, row 1
   abbrev pub byKind : Kind → (Progress → Read) → Cursor → List ℕ → Progress → Read
   byKind Close more c l s = closed (s .outer) more c l s
   byKind Node more c l s = more (addNode s)
@@ -168,12 +169,12 @@ figure (some ns) low high c more =
     let x = getD ns 0 0 in
     if leb low x && leb x high then more x else refusal c 2
 
--- D is 12,000 + O to T
+-- D is 12,000 + O to T, 12,000 being the longest packet
 unfoldable pub interruptLine : ℕ → ℕ → Lines → Cursor → Read
 interruptLine T O ls c =
     onLine ls c
     (λ l rest.
-    figure (readForm interrupt-word 1 l) (12000 + O) T c
+    figure (readForm interrupt-word 1 l) (longest-packet + O) T c
     (λ D. rootLine (record { frame = T; overhead = O; interrupt = D }) rest (next c l)))
 
 -- O is 0 to 50,000

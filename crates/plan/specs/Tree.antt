@@ -3,7 +3,7 @@ use Prim.Native.Nat.{ℕ, _+_, max}
 use mathlib.Core.Bool.{Bool, true, false, _&&_}
 use mathlib.Core.List.{List, [], _∷_}
 use lib.Dec.{leb}
-use Rattle.rules.specs.Plan.{most-hubs, most-ports, most-nodes, most-levels}
+use Rattle.rules.specs.Plan.{longest-packet, most-hubs, most-ports, most-nodes, most-levels}
 use Rattle.text.specs.Line.{Lines, ended}
 use Rattle.text.specs.Form.{drawForm}
 use Rattle.plan.specs.Kind.{frame-word, overhead-word, interrupt-word, close-word, node-word, empty-word, hub-word}
@@ -99,7 +99,7 @@ limits h =
 unfoldable pub goodFigures : Figures → Bool
 goodFigures fig =
     leb 100000 (fig .frame) && leb (fig .frame) 4000000 && leb (fig .overhead) 50000
-    && leb (12000 + fig .overhead) (fig .interrupt) && leb (fig .interrupt) (fig .frame)
+    && leb (longest-packet + fig .overhead) (fig .interrupt) && leb (fig .interrupt) (fig .frame)
 
 -- the numbers of nodes and hubs so far, in line order, and their tables
 pub record Filled : Type 0 where

@@ -40,8 +40,12 @@ most-levels = 5
 abbrev pub shortest : Plan → ℕ
 shortest p = 512
 
+-- the longest packet on a line
+abbrev pub longest-packet : ℕ
+longest-packet = 12000
+
 abbrev pub longest : Plan → ℕ
-longest p = 12000
+longest p = longest-packet
 
 -- L, the number of levels: the greatest level among hubs 1 to H
 unfoldable pub deepest : ℕ → (ℕ → ℕ) → ℕ

@@ -24,7 +24,7 @@ use Rattle.plan.specs.Kind.{kindOf, frame-word, overhead-word, interrupt
 use Rattle.plan.specs.Tables.{noTable, putRoot}
 use Rattle.plan.specs.Reading as reading
 use Rattle.plan.specs.Reading.{Figures, next, refusal, onLine, figure, isHub, begun, hubLines, rootLine, interruptLine, overheadLine, frameLine}
-use Rattle.plan.specs.Readers.{Done′, hubReader}
+use Rattle.plan.specs.Readers.{Answered, hubReader}
 use Rattle.plan.specs.Tree.{Hub, draw, drawHub, limits, goodFigures}
 use Rattle.plan.specs.Taken.{DrawnBy}
 use Rattle.plan.proofs.Tree.Room.{room-limits}
@@ -136,7 +136,7 @@ module _ (n m at line : ℕ) where
       ports-taken : c .number ≤ c .at → IsTaken (hubLines fig (lines (drop (c .at) text)) c begun) → PortsRead (c .at)
       ports-taken early t =
           let a = hub-agrees fig text (length text) begin 1 0 [] 4 (putRoot noTable) (omega arith) early refl in
-          let d : Done′ = hubReader text (length text) begin 1 0 4 (putRoot noTable) in
+          let d : Answered = hubReader text (length text) begin 1 0 4 (putRoot noTable) in
           let r = hub-tree text (length text) begin 1 0 4 1 (putRoot noTable) refl (omega arith) (omega arith) (omega arith) in
           ended-by (a .last) (d .part) (d .tables) r (sym (ap (λ (x : reading.Read). x .answer) (a .same)) ∙ t)
 

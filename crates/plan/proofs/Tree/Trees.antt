@@ -20,7 +20,7 @@ use Rattle.plan.specs.declared.Part.the-variants.{Read, Stopped}
 use Rattle.plan.specs.Kind.{kindOf, close-word, node-word, empty-word, hub-word}
 use Rattle.plan.specs.Tables.{putEmpty, putNode, putHub, putPorts}
 use Rattle.plan.specs.Reading.{next}
-use Rattle.plan.specs.Readers.{Done′, stop, read, cursor, moved, withNode, withHub, behindPort, onKind, onNext, hubReader}
+use Rattle.plan.specs.Readers.{Answered, stop, read, cursor, moved, withNode, withHub, behindPort, onKind, onNext, hubReader}
 use Rattle.plan.specs.Tree.{Port, node, empty, hub, Hub, close, port, drawPort, drawHub, portsOf, nodesAt, nodesIn, hubsAt, hubsIn, levelsAt, levelsIn, widthsAt, widthsIn}
 use Rattle.plan.proofs.Tree.Room.{PortRoom, HubRoom, join-room, outer-room}
 use Rattle.plan.proofs.Agree.{First, first}
@@ -107,10 +107,10 @@ module _ (text : List ℕ) where
       abbrev behind : Place
       behind = moved (next (cursor x) w) x
 
-      abbrev inner : Place → ℕ → ℕ → List ℕ → Done′
+      abbrev inner : Place → ℕ → ℕ → List ℕ → Answered
       inner = λ y h below u. hubReader text left y h 0 below u
 
-      abbrev more : Place → List ℕ → Done′
+      abbrev more : Place → List ℕ → Answered
       more = λ y u. hubReader text left y g (q + 1) levels u
 
       line-drawn : (word : List ℕ) → w ≡ word → lines (drop (x .at) text) ≡ ended word (lines (drop (behind .at) text))
@@ -193,7 +193,7 @@ module _ (text : List ℕ) where
           let m : x .hubs < most-hubs = leb-false most-hubs (x .hubs) (too .1) in
           let some = eqb-false levels 0 (none .1) in
           let u : List ℕ = putHub g (q + 1) (x .hubs + 1) (most-levels + 1 - levels) t in
-          let d : Done′ = inner (withHub behind) (x .hubs + 1) (levels - 1) u in
+          let d : Answered = inner (withHub behind) (x .hubs + 1) (levels - 1) u in
           entered k p (d .part) (d .tables)
           (ih (withHub behind) (x .hubs + 1) 0 (levels - 1) (l + 1) u (omega arith) (omega arith) few (omega arith))
 

@@ -3,7 +3,7 @@ use native.Mathlib.Omega.{arith}
 use Prim.Native.Nat.{ℕ, _<_, _+_, _-_}
 use mathlib.Core.List.{List}
 use mathlib.Core.Path.{_≡_, sym, ap, _∙_}
-use Rattle.plan.specs.Readers.{Done′, hubReader, moved, withHub}
+use Rattle.plan.specs.Readers.{Answered, hubReader, moved, withHub}
 use Rattle.plan.proofs.Tags.{not-close}
 use Rattle.plan.proofs.ReaderLaws.{none-left, unended-stops, done-stops, closes, port-stops, port-read}
 use Rattle.plan.proofs.PortLaws.{port-room, port-node, port-empty, port-close, port-other, no-port, no-hub, no-level, opens}
@@ -49,7 +49,7 @@ port-reader-below t =
 hub-reader-returns : (t : ℕ) → hub-reader-lts.Need-returns (next-line-reads.Asked, next-line-reads.Learnt, kind-of-reads.Asked, kind-of-reads.Learnt, close-hub-reads.Asked, close-hub-reads.Learnt, port-reader-below t, port-reader.Post, hub-reader-below t, hub-reader.Post) (hub-reader-at t) hub-reader.Post
 hub-reader-returns t c =
     let e = none-left _ _ _ _ _ _ _ (c .if1 .taken) in
-    (sym (ap (λ (d : Done′). d .part) e), sym (ap (λ (d : Done′). d .tables) e))
+    (sym (ap (λ (d : Answered). d .part) e), sym (ap (λ (d : Answered). d .tables) e))
 
 hub-reader-next-line-requires : (t : ℕ) → hub-reader-lts.Need-next-line-requires (next-line-reads.Asked, next-line-reads.Learnt, kind-of-reads.Asked, kind-of-reads.Learnt, close-hub-reads.Asked, close-hub-reads.Learnt, port-reader-below t, port-reader.Post, hub-reader-below t, hub-reader.Post) (hub-reader-at t) hub-reader.Post
 hub-reader-next-line-requires t c κs = search needs
@@ -71,7 +71,7 @@ hub-reader-returns-2 t c =
     let a = c .before .before .before .before .before .before .before .before .before .before .before .args in
     let w = c .before .before .before .before .before .before .start .given in
     let e = closes (a .text .now) (a .left) (a .x) (a .g) (a .q) (a .levels) (a .s .now) (c .before .before .before .before .before .before .before .before .before .if1 .left) (w .0 .0) (w .0 .1 .0) (w .0 .1 .1 .0) (w .0 .1 .1 .1 .0) (cc) (cc) in
-    (c .close-hub .ensures .0 ∙ sym (ap (λ (d : Done′). d .part) e), c .close-hub .ensures .1 ∙ sym (ap (λ (d : Done′). d .tables) e))
+    (c .close-hub .ensures .0 ∙ sym (ap (λ (d : Answered). d .part) e), c .close-hub .ensures .1 ∙ sym (ap (λ (d : Answered). d .tables) e))
 
 hub-reader-sub-port-reader : (t : ℕ) → hub-reader-lts.Need-sub-port-reader (next-line-reads.Asked, next-line-reads.Learnt, kind-of-reads.Asked, kind-of-reads.Learnt, close-hub-reads.Asked, close-hub-reads.Learnt, port-reader-below t, port-reader.Post, hub-reader-below t, hub-reader.Post) (hub-reader-at t) hub-reader.Post
 hub-reader-sub-port-reader t c = search needs
@@ -115,8 +115,8 @@ hub-reader-returns-3 t c =
     let z = c .before .before .before .z .given in
     let e = port-read (a .text .now) (a .left) (a .x) (a .g) (a .q) (a .levels) (a .s .now) (c .before .before .before .before .before .before .before .before .before .before .before .before .before .if1 .left) (w .0 .0) (w .0 .1 .0) (w .0 .1 .1 .0) (w .0 .1 .1 .1 .0) (sym (c .before .before .before .before .before .before .before .before .before .before .before .before .next-line .ensures) ∙ w .1) k (sym (c .before .before .before .before .before .before .before .before .kind-of .ensures)) (not-close k (c .before .before .before .before .before .before .before .match2 .keys2)) (z .0 .0) (sym (c .before .before .before .before .before .port-reader .ensures .0) ∙ z .1) in
     let f = c .before .before .before .before .before .port-reader .ensures .1 in (
-      c .hub-reader .ensures .0 ∙ ap (λ (u : List ℕ). hubReader (a .text .now) (a .left - 1) (z .0 .0) (a .g) (a .q + 1) (a .levels) u .part) f ∙ sym (ap (λ (d : Done′). d .part) e),
-      c .hub-reader .ensures .1 ∙ ap (λ (u : List ℕ). hubReader (a .text .now) (a .left - 1) (z .0 .0) (a .g) (a .q + 1) (a .levels) u .tables) f ∙ sym (ap (λ (d : Done′). d .tables) e),
+      c .hub-reader .ensures .0 ∙ ap (λ (u : List ℕ). hubReader (a .text .now) (a .left - 1) (z .0 .0) (a .g) (a .q + 1) (a .levels) u .part) f ∙ sym (ap (λ (d : Answered). d .part) e),
+      c .hub-reader .ensures .1 ∙ ap (λ (u : List ℕ). hubReader (a .text .now) (a .left - 1) (z .0 .0) (a .g) (a .q + 1) (a .levels) u .tables) f ∙ sym (ap (λ (d : Answered). d .tables) e),
     )
 
 hub-reader-returns-4 : (t : ℕ) → hub-reader-lts.Need-returns-4 (next-line-reads.Asked, next-line-reads.Learnt, kind-of-reads.Asked, kind-of-reads.Learnt, close-hub-reads.Asked, close-hub-reads.Learnt, port-reader-below t, port-reader.Post, hub-reader-below t, hub-reader.Post) (hub-reader-at t) hub-reader.Post
@@ -127,21 +127,21 @@ hub-reader-returns-4 t c =
     let z = c .before .line .given in
     let e = port-stops (a .text .now) (a .left) (a .x) (a .g) (a .q) (a .levels) (a .s .now) (c .before .before .before .before .before .before .before .before .before .before .before .if1 .left) (w .0 .0) (w .0 .1 .0) (w .0 .1 .1 .0) (w .0 .1 .1 .1 .0) (sym (c .before .before .before .before .before .before .before .before .before .before .next-line .ensures) ∙ w .1) k (sym (c .before .before .before .before .before .before .kind-of .ensures)) (not-close k (c .before .before .before .before .before .match2 .keys2)) (z .0 .0) (z .0 .1 .0) (sym (c .before .before .before .port-reader .ensures .0) ∙ z .1) in
     let f = c .before .before .before .port-reader .ensures in
-    (sym (z .1) ∙ f .0 ∙ sym (ap (λ (d : Done′). d .part) e), f .1 ∙ sym (ap (λ (d : Done′). d .tables) e))
+    (sym (z .1) ∙ f .0 ∙ sym (ap (λ (d : Answered). d .part) e), f .1 ∙ sym (ap (λ (d : Answered). d .tables) e))
 
 hub-reader-returns-5 : (t : ℕ) → hub-reader-lts.Need-returns-5 (next-line-reads.Asked, next-line-reads.Learnt, kind-of-reads.Asked, kind-of-reads.Learnt, close-hub-reads.Asked, close-hub-reads.Learnt, port-reader-below t, port-reader.Post, hub-reader-below t, hub-reader.Post) (hub-reader-at t) hub-reader.Post
 hub-reader-returns-5 t c =
     let a = c .before .before .before .before .before .before .args in
     let w = c .before .number .given in
     let e = unended-stops (a .text .now) (a .left) (a .x) (a .g) (a .q) (a .levels) (a .s .now) (c .before .before .before .before .if1 .left) (w .0 .0) (w .0 .1 .0) (w .0 .1 .1 .0) (sym (c .before .before .before .next-line .ensures) ∙ w .1) in
-    (sym (ap (λ (d : Done′). d .part) e), sym (ap (λ (d : Done′). d .tables) e))
+    (sym (ap (λ (d : Answered). d .part) e), sym (ap (λ (d : Answered). d .tables) e))
 
 hub-reader-returns-6 : (t : ℕ) → hub-reader-lts.Need-returns-6 (next-line-reads.Asked, next-line-reads.Learnt, kind-of-reads.Asked, kind-of-reads.Learnt, close-hub-reads.Asked, close-hub-reads.Learnt, port-reader-below t, port-reader.Post, hub-reader-below t, hub-reader.Post) (hub-reader-at t) hub-reader.Post
 hub-reader-returns-6 t c =
     let a = c .before .before .before .before .before .before .args in
     let w = c .before .number2 .given in
     let e = done-stops (a .text .now) (a .left) (a .x) (a .g) (a .q) (a .levels) (a .s .now) (c .before .before .before .before .if1 .left) (w .0 .0) (sym (c .before .before .before .next-line .ensures) ∙ w .1) in
-    (sym (ap (λ (d : Done′). d .part) e), sym (ap (λ (d : Done′). d .tables) e))
+    (sym (ap (λ (d : Answered). d .part) e), sym (ap (λ (d : Answered). d .tables) e))
 
 port-reader-enum-told : (t : ℕ) → port-reader-lts.Need-enum-told (node-port-reads.Asked, node-port-reads.Learnt, empty-port-reads.Asked, empty-port-reads.Learnt, put-hub-reads.Asked, put-hub-reads.Learnt, hub-reader-below t, hub-reader.Post) (port-reader-at t) port-reader.Post
 port-reader-enum-told t c = search needs
@@ -162,19 +162,19 @@ port-reader-returns : (t : ℕ) → port-reader-lts.Need-returns (node-port-read
 port-reader-returns t c =
     let a = c .before .before .before .before .args in
     let e = no-port (a .text .now) (a .left) (a .kind) (a .line) (a .x) (a .g) (a .q) (a .levels) (a .s .now) (c .before .enum-told3 .given .1) (c .if1 .taken) in
-    (sym (ap (λ (d : Done′). d .part) e), sym (ap (λ (d : Done′). d .tables) e))
+    (sym (ap (λ (d : Answered). d .part) e), sym (ap (λ (d : Answered). d .tables) e))
 
 port-reader-returns-2 : (t : ℕ) → port-reader-lts.Need-returns-2 (node-port-reads.Asked, node-port-reads.Learnt, empty-port-reads.Asked, empty-port-reads.Learnt, put-hub-reads.Asked, put-hub-reads.Learnt, hub-reader-below t, hub-reader.Post) (port-reader-at t) port-reader.Post
 port-reader-returns-2 t c =
     let a = c .before .before .before .before .before .args in
     let e = no-hub (a .text .now) (a .left) (a .kind) (a .line) (a .x) (a .g) (a .q) (a .levels) (a .s .now) (c .before .before .enum-told3 .given .1) (c .before .if1 .left) (c .if2 .taken) in
-    (sym (ap (λ (d : Done′). d .part) e), sym (ap (λ (d : Done′). d .tables) e))
+    (sym (ap (λ (d : Answered). d .part) e), sym (ap (λ (d : Answered). d .tables) e))
 
 port-reader-returns-3 : (t : ℕ) → port-reader-lts.Need-returns-3 (node-port-reads.Asked, node-port-reads.Learnt, empty-port-reads.Asked, empty-port-reads.Learnt, put-hub-reads.Asked, put-hub-reads.Learnt, hub-reader-below t, hub-reader.Post) (port-reader-at t) port-reader.Post
 port-reader-returns-3 t c =
     let a = c .before .before .before .before .before .before .args in
     let e = no-level (a .text .now) (a .left) (a .kind) (a .line) (a .x) (a .g) (a .q) (a .levels) (a .s .now) (c .before .before .before .enum-told3 .given .1) (c .before .before .if1 .left) (c .before .if2 .left) (c .if3 .taken) in
-    (sym (ap (λ (d : Done′). d .part) e), sym (ap (λ (d : Done′). d .tables) e))
+    (sym (ap (λ (d : Answered). d .part) e), sym (ap (λ (d : Answered). d .tables) e))
 
 port-reader-add-put-hub : (t : ℕ) → port-reader-lts.Need-add-put-hub (node-port-reads.Asked, node-port-reads.Learnt, empty-port-reads.Asked, empty-port-reads.Learnt, put-hub-reads.Asked, put-hub-reads.Learnt, hub-reader-below t, hub-reader.Post) (port-reader-at t) port-reader.Post
 port-reader-add-put-hub t c = search needs
@@ -210,34 +210,34 @@ port-reader-returns-4 : (t : ℕ) → port-reader-lts.Need-returns-4 (node-port-
 port-reader-returns-4 t c =
     let a = c .before .before .before .before .before .args in
     let e = port-node (a .text .now) (a .left) (a .kind) (a .line) (a .x) (a .g) (a .q) (a .levels) (a .s .now) (c .before .before .enum-told .given .1) in
-    (c .node-port .ensures .0 ∙ sym (ap (λ (d : Done′). d .part) e), c .node-port .ensures .1 ∙ sym (ap (λ (d : Done′). d .tables) e))
+    (c .node-port .ensures .0 ∙ sym (ap (λ (d : Answered). d .part) e), c .node-port .ensures .1 ∙ sym (ap (λ (d : Answered). d .tables) e))
 
 port-reader-returns-5 : (t : ℕ) → port-reader-lts.Need-returns-5 (node-port-reads.Asked, node-port-reads.Learnt, empty-port-reads.Asked, empty-port-reads.Learnt, put-hub-reads.Asked, put-hub-reads.Learnt, hub-reader-below t, hub-reader.Post) (port-reader-at t) port-reader.Post
 port-reader-returns-5 t c =
     let a = c .before .before .before .before .before .args in
     let e = port-empty (a .text .now) (a .left) (a .kind) (a .line) (a .x) (a .g) (a .q) (a .levels) (a .s .now) (c .before .before .enum-told2 .given .1) in
-    (c .empty-port .ensures .0 ∙ sym (ap (λ (d : Done′). d .part) e), c .empty-port .ensures .1 ∙ sym (ap (λ (d : Done′). d .tables) e))
+    (c .empty-port .ensures .0 ∙ sym (ap (λ (d : Answered). d .part) e), c .empty-port .ensures .1 ∙ sym (ap (λ (d : Answered). d .tables) e))
 
 port-reader-returns-6 : (t : ℕ) → port-reader-lts.Need-returns-6 (node-port-reads.Asked, node-port-reads.Learnt, empty-port-reads.Asked, empty-port-reads.Learnt, put-hub-reads.Asked, put-hub-reads.Learnt, hub-reader-below t, hub-reader.Post) (port-reader-at t) port-reader.Post
 port-reader-returns-6 t c =
     let a = c .before .before .before .before .before .before .before .before .before .before .args in
     let e = opens (a .text .now) (a .left) (a .kind) (a .line) (a .x) (a .g) (a .q) (a .levels) (a .s .now) (c .before .before .before .before .before .before .before .enum-told3 .given .1) (c .before .before .before .before .before .before .if1 .left) (c .before .before .before .before .before .if2 .left) (c .before .before .before .before .if3 .left) in
     let f = c .before .before .put-hub .ensures in (
-      c .hub-reader .ensures .0 ∙ ap (λ (u : List ℕ). hubReader (a .text .now) (a .left) (withHub (a .x)) (a .x .hubs + 1) 0 (a .levels - 1) u .part) f ∙ sym (ap (λ (d : Done′). d .part) e),
-      c .hub-reader .ensures .1 ∙ ap (λ (u : List ℕ). hubReader (a .text .now) (a .left) (withHub (a .x)) (a .x .hubs + 1) 0 (a .levels - 1) u .tables) f ∙ sym (ap (λ (d : Done′). d .tables) e),
+      c .hub-reader .ensures .0 ∙ ap (λ (u : List ℕ). hubReader (a .text .now) (a .left) (withHub (a .x)) (a .x .hubs + 1) 0 (a .levels - 1) u .part) f ∙ sym (ap (λ (d : Answered). d .part) e),
+      c .hub-reader .ensures .1 ∙ ap (λ (u : List ℕ). hubReader (a .text .now) (a .left) (withHub (a .x)) (a .x .hubs + 1) 0 (a .levels - 1) u .tables) f ∙ sym (ap (λ (d : Answered). d .tables) e),
     )
 
 port-reader-returns-7 : (t : ℕ) → port-reader-lts.Need-returns-7 (node-port-reads.Asked, node-port-reads.Learnt, empty-port-reads.Asked, empty-port-reads.Learnt, put-hub-reads.Asked, put-hub-reads.Learnt, hub-reader-below t, hub-reader.Post) (port-reader-at t) port-reader.Post
 port-reader-returns-7 t c =
     let a = c .before .before .before .args in
     let e = port-close (a .text .now) (a .left) (a .kind) (a .line) (a .x) (a .g) (a .q) (a .levels) (a .s .now) (c .enum-told4 .given .1) in
-    (sym (ap (λ (d : Done′). d .part) e), sym (ap (λ (d : Done′). d .tables) e))
+    (sym (ap (λ (d : Answered). d .part) e), sym (ap (λ (d : Answered). d .tables) e))
 
 port-reader-returns-8 : (t : ℕ) → port-reader-lts.Need-returns-8 (node-port-reads.Asked, node-port-reads.Learnt, empty-port-reads.Asked, empty-port-reads.Learnt, put-hub-reads.Asked, put-hub-reads.Learnt, hub-reader-below t, hub-reader.Post) (port-reader-at t) port-reader.Post
 port-reader-returns-8 t c =
     let a = c .before .before .before .args in
     let e = port-other (a .text .now) (a .left) (a .kind) (a .line) (a .x) (a .g) (a .q) (a .levels) (a .s .now) (c .enum-told5 .given .1) in
-    (sym (ap (λ (d : Done′). d .part) e), sym (ap (λ (d : Done′). d .tables) e))
+    (sym (ap (λ (d : Answered). d .part) e), sym (ap (λ (d : Answered). d .tables) e))
 
 pub +hub-reader+port-reader-spec : {M : Type 1} → statement M
 +hub-reader+port-reader-spec = close μ-hub-reader μ-port-reader (λ t. hub-reader-lts.spec (
