@@ -1,6 +1,6 @@
 -- Whole runs of the program, as document 01's log and the vectors of the same names give them: each event behind the answers of the steps before it.
 use mathlib.Core.List.{List, [], _∷_}
-use Rattle.rules.specs.Call.{normal, high, ask, reserve, until, taken, refused, grant, rest}
+use Rattle.rules.specs.Call.{normal, high, ask, off, reserve, until, taken, refused, grant, rest}
 use Rattle.trials.specs.Row.{Row, _⟶_, _before_, running}
 use Rattle.trials.specs.Plans.{plan01, two-deep}
 
@@ -114,5 +114,44 @@ admission =
     ∷ [] before reserve 0 1 1 12000 ⟶ taken
     ∷ [])
 
+-- an event at the due instant itself is not too late, and a step to it is quiet
+abbrev pub due-at-its-own-instant : Row
+due-at-its-own-instant =
+    running plan01 4 2
+    ([] before ask normal 0 1 12000 ⟶ taken
+    ∷ (grant 0 1 normal 13000 0 ∷ []) before ask normal 13000 2 600 ⟶ taken
+    ∷ (grant 13000 2 normal 14600 1 ∷ []) before ask normal 13001 3 600 ⟶ taken
+    ∷ [] before until 14600 ⟶ taken
+    ∷ (grant 14600 3 normal 16200 0 ∷ []) before until 14601 ⟶ taken
+    ∷ [])
+
+-- both ends of a length, and nodes that the plan lacks
+abbrev pub lengths-and-nodes : Row
+lengths-and-nodes =
+    running plan01 4 2
+    ([] before ask normal 0 1 511 ⟶ refused 15
+    ∷ [] before ask normal 0 1 512 ⟶ taken
+    ∷ (grant 0 1 normal 1512 0 ∷ []) before ask normal 1 2 12001 ⟶ refused 15
+    ∷ [] before ask normal 1 2 12000 ⟶ taken
+    ∷ [] before ask normal 2 0 600 ⟶ refused 13
+    ∷ [] before ask normal 2 5 600 ⟶ refused 13
+    ∷ [] before off 3 5 ⟶ refused 13
+    ∷ [] before off 3 2 ⟶ taken
+    ∷ [] before ask high 4 1 511 ⟶ refused 15
+    ∷ [] before ask high 4 1 512 ⟶ refused 16
+    ∷ (rest 1512 0 ∷ []) before until 90000 ⟶ taken
+    ∷ [])
+
+-- the greatest time, one above it and one before the clock, which the program makes no step for
+abbrev pub times : Row
+times =
+    running plan01 4 2
+    ([] before until 1000000000000000 ⟶ taken
+    ∷ (until 1000000000000001 ⟶ refused 11 ∷ [])
+    ∷ (until 999999999999999 ⟶ refused 11 ∷ [])
+    ∷ [] before ask normal 1000000000000000 1 512 ⟶ taken
+    ∷ [] before until 1000000000000000 ⟶ taken
+    ∷ [])
+
 abbrev pub runs : List Row
-runs = class-change-and-resume ∷ held-to-next-frame ∷ turn-lost-by-no-rest ∷ turned-normal-at-frame-start ∷ most-moves ∷ admission ∷ []
+runs = class-change-and-resume ∷ held-to-next-frame ∷ turn-lost-by-no-rest ∷ turned-normal-at-frame-start ∷ most-moves ∷ admission ∷ due-at-its-own-instant ∷ lengths-and-nodes ∷ times ∷ []
