@@ -9,3 +9,4 @@ pub mod Tags
 pub mod ReaderLaws
 pub mod PortLaws
 pub mod PlanLaws
+pub mod First

@@ -5,5 +5,6 @@ pub mod Reading
 pub mod Tree
 pub mod Behind
 pub mod Taken
+pub mod First
 pub mod Readers
 pub mod PlanReader
