@@ -1,7 +1,7 @@
 -- Every plan text that is taken keeps the promises, over every list of calls.
 use Prim.Native.Nat.{ℕ, _≤_}
 use mathlib.Core.Path.{_≡_}
-use mathlib.Core.List.{List, _∷_}
+use mathlib.Core.List.{List}
 use Rattle.rules.specs.Plan.{Plan}
 use Rattle.rules.specs.Call.{Call}
 use Rattle.rules.specs.Drawn.{Drawn}
@@ -13,7 +13,8 @@ use Rattle.rules.proofs.ControlDemand3.{control-demand3}
 use Rattle.rules.proofs.NoTimeLost.{no-time-lost}
 use Rattle.rules.proofs.Stable.{clock-grows}
 use Rattle.rules.proofs.Unchanged.{refusal-changes-nothing, quiet-changes-nothing}
-use Rattle.rules.proofs.Admission.{admission-holds, reserve-taken}
+use Rattle.rules.proofs.Admission.{admission-holds}
+use Rattle.rules.proofs.Acceptance.{acceptable-taken, taken-acceptable}
 use Rattle.plan.specs.declared.Answer.the-variants.{Taken}
 use Rattle.plan.specs.Reading.{reading}
 use Rattle.plan.specs.Tables.{planOf}
@@ -37,7 +38,8 @@ module _ (p : Plan) (drawn : Drawn p) (calls : List Call) where
         refusal-changes-nothing = λ call. refusal-changes-nothing p (control p) call (cascade p calls .hub);
         quiet-changes-nothing = λ call. quiet-changes-nothing p (control p) call (cascade p calls .hub);
         admits = admission-holds p (drawn .figures) (control p) (control-follows p drawn) (drawn .some-node) calls;
-        takes = reserve-taken p (control p) (cascade p calls .hub);
+        takes = λ call. acceptable-taken p (control p) call (cascade p calls .hub);
+        takes-only = λ call. taken-acceptable p (control p) call (cascade p calls .hub);
       }
 
 -- a text that is taken draws its plan

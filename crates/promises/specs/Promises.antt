@@ -1,17 +1,16 @@
 -- The demands, in one record: of a plan and a list of calls made on its cascade, the latest first.
 use Prim.Native.Nat.{ℕ, _-_, _*_, _≤_}
 use mathlib.Core.Path.{_≡_}
-use mathlib.Core.List.{List, _∷_, map}
+use mathlib.Core.List.{List, map}
 use Rattle.rules.specs.Plan.{Plan, levels}
-use Rattle.rules.specs.Call.{Call, Answer, refused, quiet, taken, reserve}
-use Rattle.rules.specs.Core.{Core}
+use Rattle.rules.specs.Call.{Call, Answer, refused, quiet, taken}
 use Rattle.rules.specs.Machine.{Hub, perform}
 use Rattle.rules.specs.Flat.{flat}
 use Rattle.rules.specs.Control.{Control, control}
-use Rattle.rules.specs.Run.{Made, Entry, made}
+use Rattle.rules.specs.Run.{Made, made}
 use Rattle.rules.specs.Agree.{plain, movesOf, Every}
 use Rattle.rules.specs.Demand.{Holds3}
-use Rattle.rules.specs.Promises.{NoTimeLost, Admits, Holdable}
+use Rattle.rules.specs.Promises.{NoTimeLost, Admits, Acceptable}
 
 module _ (p : Plan) (calls : List Call) where
   -- the cascade after these calls, and the flat hub after the same
@@ -38,6 +37,8 @@ module _ (p : Plan) (calls : List Call) where
     -- A refusal leaves the state as it was, and so does quiet
     pub refusal-changes-nothing : (call : Call) (n : ℕ) → answer call ≡ refused n → left call ≡ cascade .hub
     pub quiet-changes-nothing : (call : Call) → answer call ≡ quiet → left call ≡ cascade .hub
-    -- Admission keeps its promise: no frame is overfilled, and a reserve in time and range that fits is taken
+    -- Admission keeps its promise: no frame is overfilled
     pub admits : Admits p (cascade .past) (cascade .hub .core)
-    pub takes : (t k n b : ℕ) → Holdable p (cascade .hub .core) t k n b → answer (reserve t k n b) ≡ taken
+    -- An event is refused where a row says so, and nowhere else
+    pub takes : (call : Call) → Acceptable p (cascade .hub .core) call → answer call ≡ taken
+    pub takes-only : (call : Call) → answer call ≡ taken → Acceptable p (cascade .hub .core) call

@@ -1,22 +1,19 @@
--- Admission keeps its promise: at every place of a run the frame holds what was accepted, and a reserve that the frame can hold is taken.
+-- Admission keeps its promise: at every place of a run the frame holds what was accepted.
 use Prim.Native.Nat.{ℕ, _≤_}
-use mathlib.Core.Path.{_≡_, refl, ap}
-use mathlib.Core.Bool.{false}
+use mathlib.Core.Path.{_≡_, ap}
 use mathlib.Core.List.{List, [], _∷_}
-use native.Mathlib.Omega.{arith}
 use lib.Dec.{ltb}
-use borrow.Author.Tests.{le-ltb, ne-eqb, ltb-true, ltb-false}
-use Rattle.rules.specs.Plan.{Plan, shortest, longest}
-use Rattle.rules.specs.Call.{Call, reserve, taken}
+use borrow.Author.Tests.{ltb-true, ltb-false}
+use Rattle.rules.specs.Plan.{Plan}
+use Rattle.rules.specs.Call.{Call}
 use Rattle.rules.specs.Core.{Share, frameOf}
 use Rattle.rules.specs.Drawn.{Figures}
-use Rattle.rules.specs.Rows.{load, loads, rows, row15r, last-time}
-use Rattle.rules.specs.Machine.{Machine, Hub, perform}
+use Rattle.rules.specs.Rows.{load, loads}
+use Rattle.rules.specs.Machine.{Machine}
 use Rattle.rules.specs.Run.{made}
 use Rattle.rules.specs.Words.{reserved}
-use Rattle.rules.specs.Promises.{Holds, Admits, InRange, given-up, packets, Holdable}
-use Rattle.rules.proofs.Choices.{Which, which, yes′, no′, or-both, sum-same}
-use Rattle.rules.proofs.Course.{accepts}
+use Rattle.rules.specs.Promises.{Holds, Admits}
+use Rattle.rules.proofs.Choices.{Which, which, yes′, no′, sum-same}
 use Rattle.rules.proofs.Follows.{Follows}
 use Rattle.rules.proofs.AlwaysSound.{fresh-sound, sound}
 use Rattle.rules.proofs.AlwaysTold.{told}
@@ -53,25 +50,3 @@ module _ (p : Plan) (fig : Figures p) (M : Machine) (follows : Follows p M) (som
         force = sound p fig M follows some calls .force-fits;
         frame = frame-holds calls;
       }
-
-in-range : (p : Plan) {n b : ℕ} → InRange p n b → row15r p n b .applies ≡ false
-in-range p given-up = refl
-in-range p (packets n b m l u) = rw (ne-eqb n 0 (λ e. omega arith), le-ltb b (shortest p) l, le-ltb (longest p) b u)
-
--- of any hub, whatever way it gives turns
-pub reserve-taken : (p : Plan) (M : Machine) (h : Hub (M .State)) (t k n b : ℕ) → Holdable p (h .core) t k n b
-    → perform p M (reserve t k n b) h .answer ≡ taken
-unfolding perform
-reserve-taken p M h t k n b ok =
-    rw
-    (accepts (rows p (h .core) (reserve t k n b)) (
-      or-both _ _ (le-ltb last-time t (ok .soon)) (le-ltb t (h .core .clock) (ok .late)),
-      (
-        ok .not-due,
-        (
-          or-both _ _ (ne-eqb k 0 (λ e. omega (arith, ok .node .low))) (le-ltb (p .nodes) k (ok .node .up)),
-          (le-ltb 64 n (ok .few), (in-range p (ok .range), (le-ltb (p .frame) _ (ok .holds), tt))),
-        ),
-      ),
-    )
-    )

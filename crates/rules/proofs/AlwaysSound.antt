@@ -1,22 +1,21 @@
 -- `Sound` holds at every place of a run.
 use Prim.Native.Nat.{ℕ, zero, suc, _+_, _≤_}
 use mathlib.Core.Path.{_≡_, refl, subst}
-use mathlib.Core.Bool.{true, false}
+use mathlib.Core.Bool.{true}
 use mathlib.Core.List.{List, [], _∷_}
 use native.Mathlib.Omega.{arith}
-use lib.Dec.{ltb, eqb}
-use borrow.Author.Tests.{ltb-false, eqb-false}
 use Rattle.rules.specs.Choice.{any, sum}
-use Rattle.rules.specs.Plan.{Plan, shortest, longest}
-use Rattle.rules.specs.Call.{Class, normal, high, Call, ask, time}
+use Rattle.rules.specs.Plan.{Plan}
+use Rattle.rules.specs.Call.{Class, Call, time}
 use Rattle.rules.specs.Core.{Core, none, standing, fresh, advance, countsIn, Sought, class, sought, at, due}
-use Rattle.rules.specs.Drawn.{Within, Figures}
-use Rattle.rules.specs.Rows.{loads, accept, firstRow, rows, row13, change, unreserved}
+use Rattle.rules.specs.Drawn.{Figures}
+use Rattle.rules.specs.Rows.{loads, accept, firstRow, rows, change}
 use Rattle.rules.specs.Machine.{Machine, Hub, Outcome}
 use Rattle.rules.specs.Words.{Keeps}
 use Rattle.rules.specs.Run.{made}
-use Rattle.rules.proofs.Choices.{or-none}
-use Rattle.rules.proofs.Course.{Clear, clear, Event, asking, leaving, reserving, waiting, in-time, not-due, Course, refusal, event, quietly, granting, resting, course}
+use Rattle.rules.specs.Promises.{Askable, Acceptable, asks, leaves, reserves, waits}
+use Rattle.rules.proofs.Acceptance.{acceptable}
+use Rattle.rules.proofs.Course.{Event, in-time, not-due, Course, refusal, event, quietly, granting, resting, course}
 use Rattle.rules.proofs.Instants.{Seeking, seeks, none-counts, seeking}
 use Rattle.rules.proofs.Turns.{Pointed, pointed-start, pointed-rest, node-counts, pointed-turn}
 use Rattle.rules.proofs.Follows.{Follows}
@@ -25,42 +24,24 @@ use Rattle.rules.proofs.Kept.{Proper, none-proper, sound-of, request-so
 use Rattle.rules.proofs.Advance.{advance-sound, advance-clock, advance-latest, due-late, due-end, not-before-end}
 use Rattle.rules.proofs.Clash.{clash}
 
--- what the rows let through
+-- what an acceptable event leaves
 module _ (p : Plan) (s : Core) where
-  pub node-within : (k : ℕ) → row13 p k .applies ≡ false → Within (p .nodes) k
-  node-within k e =
-      let h = or-none (eqb k 0) (ltb (p .nodes) k) e in
-      record { low = omega (arith, eqb-false k 0 (h .0)); up = ltb-false (p .nodes) k (h .1) }
-
-  pub high-allowed : (c : Class) (t k b d : ℕ) → unreserved p s c t k b ≡ false → standing c b ≡ standing high d → Keeps (advance p t s .force k) d
-  high-allowed normal t k b d e f = clash (cc)
-  high-allowed high t k b d e f =
-      let h = or-none (eqb (advance p t s .force k .packets) 0) (ltb (advance p t s .force k .bits) b) e in
-      let g : b ≡ d = cc in
+  asked-proper : (c : Class) (t k b : ℕ) → Askable p s c t k b → Proper p (advance p t s .force k) k (standing c b)
+  asked-proper c t k b a =
       record {
-        some = omega (arith, eqb-false (advance p t s .force k .packets) 0 (h .0));
-        fits = omega (arith, ltb-false (advance p t s .force k .bits) b (h .1));
+        allowed = λ d f. (let g : b ≡ d = cc in subst (λ (x : ℕ). Keeps (advance p t s .force k) x) g (a .share (cc)));
+        node = λ d x f. a .node;
+        short = λ d x f. (let g : b ≡ d = cc in omega (arith, a .short));
+        long = λ d x f. (let g : b ≡ d = cc in omega (arith, a .long));
       }
 
-  asked-proper : (c : Class) (t k b : ℕ) → Clear (rows p s (ask c t k b)) → Proper p (advance p t s .force k) k (standing c b)
-  asked-proper c t k b e =
-      let h = or-none (ltb b (shortest p)) (ltb (longest p) b) (e .1 .1 .1 .0) in
-      record {
-        allowed = λ d f. high-allowed c t k b d (e .1 .1 .1 .1 .0) f;
-        node = λ d x f. node-within k (e .1 .1 .0);
-        short = λ d x f. (let g : b ≡ d = cc in omega (arith, ltb-false b (shortest p) (h .0)));
-        long = λ d x f. (let g : b ≡ d = cc in omega (arith, ltb-false (longest p) b (h .1)));
-      }
-
-  -- an accepted event, once the clock has come to its time
-  event-sound : {call : Call} → Event call → Clear (rows p s call) → Sound p (advance p (time call) s)
-      → Sound p (change call (advance p (time call) s))
-  event-sound (asking c t k b) e ok = request-sound p (advance p t s) ok k (standing c b) (asked-proper c t k b e)
-  event-sound (leaving t k) e ok = request-sound p (advance p t s) ok k none (none-proper p (advance p t s .force k) k)
-  event-sound (reserving t k n b) e ok =
-      latest-sound p (advance p t s) ok k (record { packets = n; bits = b })
-      (rw (advance-latest p t s) (ltb-false (p .frame) _ (e .1 .1 .1 .1 .1 .0)))
-  event-sound (waiting t) e ok = ok
+  -- once the clock has come to its time
+  event-sound : {call : Call} → Acceptable p s call → Sound p (advance p (time call) s) → Sound p (change call (advance p (time call) s))
+  event-sound (asks c t k b a) ok = request-sound p (advance p t s) ok k (standing c b) (asked-proper c t k b a)
+  event-sound (leaves t k o w) ok = request-sound p (advance p t s) ok k none (none-proper p (advance p t s .force k) k)
+  event-sound (reserves t k n b a) ok =
+      latest-sound p (advance p t s) ok k (record { packets = n; bits = b }) (rw (advance-latest p t s) (a .holds))
+  event-sound (waits t o) ok = ok
 
 sum-zero : (n : ℕ) (f : ℕ → ℕ) → ((k : ℕ) → f k ≡ 0) → sum n f ≡ 0
 unfolding sum
@@ -105,7 +86,7 @@ module _ (p : Plan) (fig : Figures p) (M : Machine) (follows : Follows p M) wher
     good-next : {call : Call} {o : Outcome (M .State)} → Course p M h call o → Good (o .hub)
     good-next (refusal call n e) = ok
     good-next (event call e a) =
-        record { sound = event-sound p (h .core) e (clear (rows p (h .core) call) a) (arrival-sound e a); pointed = ok .pointed }
+        record { sound = event-sound p (h .core) (acceptable p (h .core) e a) (arrival-sound e a); pointed = ok .pointed }
     good-next (quietly t i n) = ok
     good-next (granting t d c i e l n) =
         let some = turn-counts d c n in

@@ -6,15 +6,17 @@ use Rattle.rules.specs.Plan.{Plan}
 use Rattle.rules.specs.Call.{high, Call, time, taken}
 use Rattle.rules.specs.Core.{Core, Request, standing, fresh, frameOf, advance, at, due}
 use Rattle.rules.specs.Drawn.{Figures}
-use Rattle.rules.specs.Rows.{rows, change}
+use Rattle.rules.specs.Rows.{change}
 use Rattle.rules.specs.Machine.{Machine, Hub, Outcome}
 use Rattle.rules.specs.Run.{Entry, made}
 use Rattle.rules.specs.Words.{clockAt, reserved, Asked, asked, requestAt, Keeps, highGrants}
-use Rattle.rules.proofs.Course.{Clear, clear, Event, asking, leaving, reserving, waiting, in-time, Course, refusal, event, quietly, granting, resting, course}
+use Rattle.rules.specs.Promises.{Acceptable, asks, leaves, reserves, waits}
+use Rattle.rules.proofs.Acceptance.{acceptable}
+use Rattle.rules.proofs.Course.{Event, asking, leaving, reserving, waiting, in-time, Course, refusal, event, quietly, granting, resting, course}
 use Rattle.rules.proofs.Follows.{Follows}
 use Rattle.rules.proofs.Sound.{Told}
 use Rattle.rules.proofs.Advance.{advance-clock, due-late}
-use Rattle.rules.proofs.AlwaysSound.{high-allowed, Good, good}
+use Rattle.rules.proofs.AlwaysSound.{Good, good}
 use Rattle.rules.proofs.Tells.{Tells, neither, plain, kept, made-normal, Reads, advance-reads}
 use Rattle.rules.proofs.Entries.{refused-reads, quiet-reads, rest-reads, ask-reads, off-reads, until-reads, reserve-reads, grant-reads}
 use Rattle.rules.proofs.Clash.{clash}
@@ -27,13 +29,12 @@ event-clock (reserving t k n b) s = refl
 event-clock (waiting t) s = refl
 
 module _ (p : Plan) (fig : Figures p) (past : List Entry) where
-  event-reads : (s : Core) {call : Call} → Event call → Clear (rows p s call) → Reads p past (advance p (time call) s)
+  event-reads : (s : Core) {call : Call} → Acceptable p s call → Reads p past (advance p (time call) s)
       → Reads p (record { call = call; answer = taken } ∷ past) (change call (advance p (time call) s))
-  event-reads s (asking c t k b) e was =
-      ask-reads p past (advance p t s) was c t k b (advance-clock p t s) (λ q. high-allowed p s c t k b b (e .1 .1 .1 .1 .0) q .some)
-  event-reads s (leaving t k) e was = off-reads p past (advance p t s) was t k
-  event-reads s (reserving t k n b) e was = reserve-reads p past (advance p t s) was fig t k n b (advance-clock p t s)
-  event-reads s (waiting t) e was = until-reads p past (advance p t s) was t
+  event-reads s (asks c t k b a) was = ask-reads p past (advance p t s) was c t k b (advance-clock p t s) (λ q. a .share (cc) .some)
+  event-reads s (leaves t k o w) was = off-reads p past (advance p t s) was t k
+  event-reads s (reserves t k n b a) was = reserve-reads p past (advance p t s) was fig t k n b (advance-clock p t s)
+  event-reads s (waits t o) was = until-reads p past (advance p t s) was t
 
   module _ (M : Machine) (follows : Follows p M) (h : Hub (M .State)) (ok : Good p fig M follows h) (was : Reads p past (h .core)) where
     -- the words are the same once the clock has come to the due instant
@@ -43,7 +44,7 @@ module _ (p : Plan) (fig : Figures p) (past : List Entry) where
     reads-next : {call : Call} {o : Outcome (M .State)} → Course p M h call o → Reads p (record { call = call; answer = o .answer } ∷ past) (o .hub .core)
     reads-next (refusal call n e) = refused-reads p past call n (h .core) was
     reads-next (event call e a) =
-        event-reads (h .core) e (clear (rows p (h .core) call) a)
+        event-reads (h .core) (acceptable p (h .core) e a)
         (advance-reads p fig past (time call) (h .core) (in-time p (h .core) call a .late) was)
     reads-next (quietly t i n) = quiet-reads p past t (h .core) was
     reads-next (granting t d c i e l n) =

@@ -1,17 +1,17 @@
 -- The five ways in which a call can go, each with what it shows of the hub before it. Whatever is proved of every call goes by these.
-use Prim.Native.Nat.{ℕ, _≤_, _<_}
+use Prim.Native.Nat.{ℕ, _<_}
 use mathlib.Core.Path.{_≡_, refl}
 use mathlib.Core.Bool.{Bool, true, false}
 use mathlib.Core.List.{List, [], _∷_}
 use lib.Dec.{ltb}
-use borrow.Author.Tests.{ltb-true, ltb-false}
+use borrow.Author.Tests.{ltb-true}
 use Rattle.rules.specs.Choice.{if_then_else_}
 use Rattle.rules.specs.Plan.{Plan}
 use Rattle.rules.specs.Call.{Class, Call, ask, off, reserve, until, step, time, taken, refused, rest, quiet}
 use Rattle.rules.specs.Core.{Core, advance, countsIn, Due, never, at, due, before, Sought, nothing, class, sought}
-use Rattle.rules.specs.Rows.{Row, Verdict, accept, refuse, firstRow, rows, row11, change, last-time}
+use Rattle.rules.specs.Rows.{Row, Verdict, accept, refuse, firstRow, rows, change}
 use Rattle.rules.specs.Machine.{Machine, Hub, Outcome, grantTo, handled, restful, stepAt, accepted, decided, perform}
-use Rattle.rules.proofs.Choices.{or-none}
+use Rattle.rules.proofs.Passed.{InTime, passed11}
 use Rattle.rules.proofs.Clash.{clash}
 
 -- no row of a list applies
@@ -41,24 +41,14 @@ pub data Event : Call → Type 0 where
   reserving : (t k n b : ℕ) → Event (reserve t k n b)
   waiting : (t : ℕ) → Event (until t)
 
--- row 11 does not apply to time t
-pub record InTime (s : Core) (t : ℕ) : Type 0 where
-  pub late : s .clock ≤ t
-  pub soon : t ≤ last-time
-
 -- row 11 stands first for every call, and row 12 next for every event
 module _ (p : Plan) (s : Core) where
-  from-row11 : (t : ℕ) → row11 s t .applies ≡ false → InTime s t
-  from-row11 t e =
-      let n = or-none (ltb last-time t) (ltb t (s .clock)) e in
-      record { late = ltb-false t (s .clock) (n .1); soon = ltb-false last-time t (n .0) }
-
   pub in-time : (call : Call) → firstRow (rows p s call) ≡ accept → InTime s (time call)
-  in-time (ask c t k b) e = from-row11 t (clear (rows p s (ask c t k b)) e .0)
-  in-time (off t k) e = from-row11 t (clear (rows p s (off t k)) e .0)
-  in-time (reserve t k n b) e = from-row11 t (clear (rows p s (reserve t k n b)) e .0)
-  in-time (until t) e = from-row11 t (clear (rows p s (until t)) e .0)
-  in-time (step t) e = from-row11 t (clear (rows p s (step t)) e .0)
+  in-time (ask c t k b) e = passed11 s t .0 (clear (rows p s (ask c t k b)) e .0)
+  in-time (off t k) e = passed11 s t .0 (clear (rows p s (off t k)) e .0)
+  in-time (reserve t k n b) e = passed11 s t .0 (clear (rows p s (reserve t k n b)) e .0)
+  in-time (until t) e = passed11 s t .0 (clear (rows p s (until t)) e .0)
+  in-time (step t) e = passed11 s t .0 (clear (rows p s (step t)) e .0)
 
   pub not-due : {call : Call} → Event call → firstRow (rows p s call) ≡ accept → before (due p s) (time call) ≡ false
   not-due (asking c t k b) e = clear (rows p s (ask c t k b)) e .1 .0

@@ -5,7 +5,9 @@ pub mod Agree
 pub mod Control
 pub mod Clash
 pub mod Frames
+pub mod Passed
 pub mod Course
+pub mod Acceptance
 pub mod Instants
 pub mod Turns
 pub mod Requests

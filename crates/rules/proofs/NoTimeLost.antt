@@ -1,10 +1,10 @@
--- No time is lost: a step handles the due instant, and where a request counts it is a grant.
+-- No time is lost: a step handles the due instant, and where a request counts it is a grant to one that counts.
 use Prim.Native.Nat.{ℕ, _+_, _*_, _≤_, _<_}
 use mathlib.Core.Path.{_≡_, refl, ap, _∙_, subst}
 use mathlib.Core.Bool.{true, false}
 use mathlib.Core.List.{List}
 use native.Mathlib.Omega.{arith}
-use borrow.Author.Tests.{le-ltb, lt-ltb}
+use borrow.Author.Tests.{lt-ltb}
 use Rattle.rules.specs.Plan.{Plan}
 use Rattle.rules.specs.Call.{Class, normal, high, Call, step, rest, quiet}
 use Rattle.rules.specs.Core.{Core, Request, standing, Line, resting, busy, frameOf, turned, advance, countsIn, counts, held, Due, never, at, dueAtRest, dueOn, due, before, Sought, nothing, sought}
@@ -13,15 +13,16 @@ use Rattle.rules.specs.Rows.{last-time, rows}
 use Rattle.rules.specs.Machine.{Machine, Hub, Outcome, handled, stepAt, perform}
 use Rattle.rules.specs.Run.{made}
 use Rattle.rules.specs.Promises.{GrantsAt, grants, RestsAt, rests, someCounts, someHeld, stepAnswer, NoTimeLost}
-use Rattle.rules.proofs.Choices.{Some, any-some, any-none, any-intro, true-false, or-left, or-right, or-both, and-both}
-use Rattle.rules.proofs.Course.{accepts, InTime, Course, refusal, quietly, granting, course}
+use Rattle.rules.proofs.Choices.{Some, any-some, any-none, any-intro, true-false, or-left, or-right, and-both}
+use Rattle.rules.proofs.Passed.{InTime, passed11}
+use Rattle.rules.proofs.Course.{accepts, Course, refusal, quietly, granting, course}
 use Rattle.rules.proofs.Frames.{frame-of-start}
 use Rattle.rules.proofs.Instants.{Instant, line-ends, one-counts, one-held, no-instant, instant, Seeking, seeks, none-counts, seeking, Advanced, across, inside, advanced}
 use Rattle.rules.proofs.Requests.{Start, stays-high, turns-normal, start-of, of-class}
 use Rattle.rules.proofs.Follows.{Follows}
-use Rattle.rules.proofs.Sound.{Sound}
+use Rattle.rules.proofs.Turns.{Pointed, node-counts}
 use Rattle.rules.proofs.Advance.{due-late, due-end}
-use Rattle.rules.proofs.AlwaysSound.{sound}
+use Rattle.rules.proofs.AlwaysSound.{Good, good}
 use Rattle.rules.proofs.Clash.{clash}
 
 -- what counts in a class counts
@@ -81,7 +82,7 @@ module _ (p : Plan) (M : Machine) (h : Hub (M .State)) where
   step-accepted : (t : ℕ) → InTime (h .core) t → perform p M (step t) h ≡ stepAt p M (due p (h .core)) t h
   unfolding perform
   step-accepted t i =
-      rw (accepts (rows p (h .core) (step t)) (or-both _ _ (le-ltb last-time t (i .soon)) (le-ltb t (h .core .clock) (i .late)), tt))
+      rw (accepts (rows p (h .core) (step t)) (passed11 (h .core) t .1 i, tt))
 
   -- it handles one that is due before its bound
   step-handles : (t d : ℕ) → InTime (h .core) t → due p (h .core) ≡ at d → d < t
@@ -97,11 +98,15 @@ module _ (p : Plan) (M : Machine) (h : Hub (M .State)) where
       go (at d) e = rw e
 
   module _ (t d : ℕ) (i : InTime (h .core) t) (e : due p (h .core) ≡ at d) (l : d < t) where
-    grants-there : someCounts p (advance p d (h .core)) ≡ true → GrantsAt d (stepAnswer p M h t)
-    grants-there some = rw (step-handles t d i e l, stepAnswer) (go (seeking p (advance p d (h .core))))
+    -- the turn goes to a node that counts
+    grants-there : (follows : Follows p M) → Pointed p M follows (h .turn) → someCounts p (advance p d (h .core)) ≡ true
+        → GrantsAt p (h .core) d (stepAnswer p M h t)
+    grants-there follows pointed some = rw (step-handles t d i e l, stepAnswer) (go (seeking p (advance p d (h .core))))
       where
-        go : {x : Sought} → Seeking p (advance p d (h .core)) x → GrantsAt d (handled p M d x (advance p d (h .core)) (h .turn) .answer)
-        go (seeks c a) = grants _ c _ _
+        go : {x : Sought} → Seeking p (advance p d (h .core)) x → GrantsAt p (h .core) d (handled p M d x (advance p d (h .core)) (h .turn) .answer)
+        go (seeks c a) =
+            let turn = node-counts p M follows (h .turn) pointed c (countsIn c (advance p d (h .core))) a in
+            grants _ c _ _ (turn .within) (turn .holds)
         go (none-counts a) = absurd (true-false some a)
 
     rests-there : someCounts p (advance p d (h .core)) ≡ false → RestsAt d (stepAnswer p M h t)
@@ -132,7 +137,7 @@ module _ (p : Plan) (M : Machine) (h : Hub (M .State)) where
       go (granting t d c i a l n) q = clash (cc)
       go (Course.resting t d i a l n) q = let r : d ≡ s = cc in (cc, cc)
 
-module _ (p : Plan) (fig : Figures p) (M : Machine) (h : Hub (M .State)) (ok : Sound p (h .core)) where
+module _ (p : Plan) (fig : Figures p) (M : Machine) (follows : Follows p M) (h : Hub (M .State)) (ok : Good p fig M follows h) where
   -- an instant that is due at rest finds a request that counts
   rest-ends-line : (d : ℕ) → due p (h .core) ≡ at d → someCounts p (advance p d (h .core)) ≡ false → h .core .line ≡ busy d
   rest-ends-line d e none = go (instant p (h .core)) e
@@ -146,19 +151,20 @@ module _ (p : Plan) (fig : Figures p) (M : Machine) (h : Hub (M .State)) (ok : S
       go (one-held l none some) q = found ((frameOf p (h .core .clock) + 1) * p .frame) (cc) (held-counts p (h .core) fig some)
       go (no-instant l none free) q = clash (cc)
 
+  -- an instant that is due before a step's bound, and finds a request that counts
+  grants-due : (t d : ℕ) → due p (h .core) ≡ at d → d < t → t ≤ last-time → someCounts p (advance p d (h .core)) ≡ true
+      → GrantsAt p (h .core) d (stepAnswer p M h t)
+  grants-due t d e late soon some =
+      grants-there p M h t d (record { late = omega (arith, due-late p fig (h .core) (ok .sound) d e); soon = soon }) e late follows (ok .pointed) some
+
   lost-nowhere : NoTimeLost p M h
   lost-nowhere =
       record {
-        at-once = λ l some t late soon.
-            grants-there p M h t (h .core .clock) (record { late = omega arith; soon = soon }) (due-counts p (h .core) l some) late
-            (counts-now p (h .core) some);
-        at-start = λ l none some t late soon.
-            (let e = due-held p (h .core) l none some in
-            grants-there p M h t _ (record { late = omega (arith, due-late p fig (h .core) ok _ e); soon = soon }) e late (held-counts p (h .core) fig some));
-        at-end = λ e l t late soon some.
-            grants-there p M h t e (record { late = omega (arith, ok .end-late e l); soon = soon }) (due-end p fig (h .core) e l) late some;
+        at-once = λ l some t late soon. grants-due t _ (due-counts p (h .core) l some) late soon (counts-now p (h .core) some);
+        at-start = λ l none some t late soon. grants-due t _ (due-held p (h .core) l none some) late soon (held-counts p (h .core) fig some);
+        at-end = λ e l t late soon some. grants-due t e (due-end p fig (h .core) e l) late soon some;
         at-idle-end = λ e l t late soon none.
-            rests-there p M h t e (record { late = omega (arith, ok .end-late e l); soon = soon }) (due-end p fig (h .core) e l) late none;
+            rests-there p M h t e (record { late = omega (arith, ok .sound .end-late e l); soon = soon }) (due-end p fig (h .core) e l) late none;
         rest-only = λ t s m e.
             (let r = rest-due p M h t s m e in
             let none = nothing-counts p (advance p s (h .core)) (seeking p (advance p s (h .core))) (r .1) in
@@ -168,4 +174,4 @@ module _ (p : Plan) (fig : Figures p) (M : Machine) (h : Hub (M .State)) (ok : S
       }
 
 pub no-time-lost : (p : Plan) → Figures p → (M : Machine) → Follows p M → 1 ≤ p .nodes → (calls : List Call) → NoTimeLost p M (made p M calls .hub)
-no-time-lost p fig M follows some calls = lost-nowhere p fig M (made p M calls .hub) (sound p fig M follows some calls)
+no-time-lost p fig M follows some calls = lost-nowhere p fig M follows (made p M calls .hub) (good p fig M follows some calls)
