@@ -13,7 +13,7 @@ use Rattle.rules.specs.Demand.{Holds3}
 use Rattle.rules.specs.Promises.{NoTimeLost, Admits, Acceptable}
 
 module _ (p : Plan) (calls : List Call) where
-  -- the cascade after these calls, and the flat hub after the same
+  -- the cascade after these calls, with the list of calls and answers
   abbrev pub cascade : Made Control
   cascade = made p (control p) calls
 
