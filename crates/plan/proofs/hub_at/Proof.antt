@@ -1,8 +1,7 @@
-use mathlib.Core.Path.{_≡_, sym, ap, _∙_}
-use mathlib.Core.List.{List}
+-- `hub_at` meets its contract, by the laws of PlanLaws: one a return.
+use mathlib.Core.Path.{sym, ap, _∙_}
 use Prim.Native.Nat.{ℕ}
 use lib.ListN.{length}
-use Rattle.plan.specs.declared.Answer.{Answer}
 use Rattle.plan.specs.declared.Answer.the-variants.{Refused}
 use Rattle.plan.specs.Tables.{putRoot, putFigures}
 use Rattle.plan.specs.Reading.{Read, Figures, leaves}
@@ -10,38 +9,25 @@ use Rattle.plan.proofs.PlanLaws.{root-stopped, hub-stopped, hub-no-node
 use borrow.Author.Needs.{needs}
 use Rattle.plan.proofs.hub_at.Statement.{statement}
 use Rattle.plan.proofs.hub_at.Tie as tie
-use Rattle.plan.proofs.hub_at.Reads as reads
-use Rattle.plan.proofs.hub_at.Lts as lts
-use Rattle.plan.proofs.one_before.Reads as one-before-reads
-use Rattle.plan.proofs.put_figures.Reads as put-figures-reads
-use Rattle.plan.proofs.readers.hub_reader.Reads as hub-reader-reads
-use Rattle.plan.proofs.root_at.Reads as root-at-reads
 
--- src/lib.rt:165:11
 root-at-requires : tie.Need-root-at-requires
 root-at-requires c κs = search needs
 
--- src/lib.rt:166:20
 enum-known-x : tie.Need-enum-known-x
 enum-known-x c = search needs
 
--- src/lib.rt:168:13
 array-write-s : tie.Need-array-write-s
 array-write-s c = search needs
 
--- src/lib.rt:169:19
 hub-reader-requires : tie.Need-hub-reader-requires
 hub-reader-requires c κs = search needs
 
--- src/lib.rt:170:28
 enum-known-y : tie.Need-enum-known-y
 enum-known-y c = search needs
 
--- src/lib.rt:173:35
 one-before-requires : tie.Need-one-before-requires
 one-before-requires c κs = search needs
 
--- src/lib.rt:172:25
 returns : tie.Need-returns
 unfolding putRoot
 returns c =
@@ -52,19 +38,15 @@ returns c =
     let e = hub-no-node (a .text .now) (length (a .text .now)) fig (a .c) (x .0 .0) (sym (c .before .before .before .before .before .before .before .before .before .before .before .root-at .ensures) ∙ x .1) (y .0 .0) (sym (c .before .before .before .before .before .before .hub-reader .ensures .0) ∙ y .1) (c .before .if1 .taken) in
     (ap (λ (n : ℕ). Refused n 3) (c .one-before .ensures) ∙ sym (ap (λ (r : Read). r .answer) e), sym (ap (λ (r : Read). leaves r (a .plan .now)) e))
 
--- src/lib.rt:177:21
 put-figures-requires : tie.Need-put-figures-requires
 put-figures-requires c κs = search needs
 
--- src/lib.rt:186:33
 enum-known-line : tie.Need-enum-known-line
 enum-known-line c = search needs
 
--- src/lib.rt:189:25
 enum-known-line-2 : tie.Need-enum-known-line-2
 enum-known-line-2 c = search needs
 
--- src/lib.rt:160:1
 returns-2 : tie.Need-returns-2
 unfolding putRoot
 returns-2 c =
@@ -78,7 +60,6 @@ returns-2 c =
       c .put-figures .ensures ∙ ap (putFigures (a .t) (a .o) (a .d) (y .0 .0 .nodes) (y .0 .0 .hubs)) f ∙ sym (ap (λ (r : Read). leaves r (a .plan .now)) e),
     )
 
--- src/lib.rt:160:1
 returns-3 : tie.Need-returns-3
 unfolding putRoot
 returns-3 c =
@@ -89,7 +70,6 @@ returns-3 c =
     let e = hub-stopped (a .text .now) (length (a .text .now)) fig (a .c) (x .0 .0) (sym (c .before .before .before .before .before .before .before .before .root-at .ensures) ∙ x .1) (y .0 .0) (y .0 .1 .0) (sym (c .before .before .before .hub-reader .ensures .0) ∙ y .1) in
     (sym (ap (λ (r : Read). r .answer) e), sym (ap (λ (r : Read). leaves r (a .plan .now)) e))
 
--- src/lib.rt:160:1
 returns-4 : tie.Need-returns-4
 unfolding putRoot
 returns-4 c =

@@ -1,20 +1,16 @@
+-- `in_range` meets its contract: each return by the tests that led there.
 use borrow.Author.Tests.{le-leb, lt-leb}
 use Rattle.plan.proofs.in_range.Statement.{statement}
 use Rattle.plan.proofs.in_range.Tie as tie
-use Rattle.plan.proofs.in_range.Reads as reads
-use Rattle.plan.proofs.in_range.Lts as lts
 
--- src/lib.rt:75:9
 returns : tie.Need-returns
 returns c =
     simp (lt-leb _ _ (c .if1 .taken))
 
--- src/lib.rt:78:9
 returns-2 : tie.Need-returns-2
 returns-2 c =
     simp (le-leb _ _ (c .before .if1 .left), lt-leb _ _ (c .if2 .taken))
 
--- src/lib.rt:71:1
 returns-3 : tie.Need-returns-3
 returns-3 c =
     simp (le-leb _ _ (c .before .if1 .left), le-leb _ _ (c .if2 .left))

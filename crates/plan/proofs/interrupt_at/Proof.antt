@@ -1,35 +1,27 @@
-use mathlib.Core.Path.{_≡_, sym, ap, _∙_}
+-- `interrupt_at` meets its contract, by the laws of PlanLaws; a figure that was read is in its range, so it fits a cell.
+use mathlib.Core.Path.{sym, ap, _∙_}
 use native.Mathlib.Omega.{arith}
-use Prim.Native.Nat.{ℕ, _+_}
+use Prim.Native.Nat.{_+_}
 use lib.ListN.{length}
-use Rattle.plan.specs.Kind.{frame-word, overhead-word, interrupt-word}
+use Rattle.plan.specs.Kind.{interrupt-word}
 use Rattle.plan.specs.Reading.{Read, leaves}
 use Rattle.plan.proofs.PlanLaws.{figure-range, interrupt-got, interrupt-not}
 use borrow.Author.Needs.{needs}
 use Rattle.plan.proofs.interrupt_at.Statement.{statement}
 use Rattle.plan.proofs.interrupt_at.Tie as tie
-use Rattle.plan.proofs.interrupt_at.Reads as reads
-use Rattle.plan.proofs.interrupt_at.Lts as lts
-use Rattle.plan.proofs.figure_at.Reads as figure-at-reads
-use Rattle.plan.proofs.hub_at.Reads as hub-at-reads
 
--- src/lib.rt:205:30
 slice-aggregate-figure-at : tie.Need-slice-aggregate-figure-at
 slice-aggregate-figure-at c = search needs
 
--- src/lib.rt:205:45
 add-figure-at : tie.Need-add-figure-at
 add-figure-at c = search needs
 
--- src/lib.rt:205:11
 figure-at-requires : tie.Need-figure-at-requires
 figure-at-requires c κs = search needs
 
--- src/lib.rt:206:23
 enum-known-value : tie.Need-enum-known-value
 enum-known-value c = search needs
 
--- src/lib.rt:206:40
 hub-at-requires : tie.Need-hub-at-requires
 hub-at-requires c κs =
     let a = c .before .before .before .before .before .before .before .args in
@@ -38,11 +30,9 @@ hub-at-requires c κs =
     let w = figure-range (a .text .now) (a .c) interrupt-word (12000 + a .o) (a .t) (v .0 .0) (v .0 .1 .0) (sym (c .before .before .before .before .figure-at .ensures) ∙ v .1) in
     omega arith
 
--- src/lib.rt:207:23
 enum-known-line : tie.Need-enum-known-line
 enum-known-line c = search needs
 
--- src/lib.rt:200:1
 returns : tie.Need-returns
 returns c =
     let a = c .before .before .before .before .before .before .before .before .args in
@@ -50,7 +40,6 @@ returns c =
     let e = interrupt-got (a .text .now) (length (a .text .now)) (a .t) (a .o) (a .c) (v .0 .0) (v .0 .1 .0) (sym (c .before .before .before .before .before .figure-at .ensures) ∙ v .1) in
     (c .hub-at .ensures .0 ∙ sym (ap (λ (r : Read). r .answer) e), c .hub-at .ensures .1 ∙ sym (ap (λ (r : Read). leaves r (a .plan .now)) e))
 
--- src/lib.rt:200:1
 returns-2 : tie.Need-returns-2
 returns-2 c =
     let a = c .before .before .before .before .before .before .args in

@@ -1,43 +1,33 @@
+-- `put_figures` meets its contract: five stores.
 use Rattle.plan.specs.Tables.{putFigures}
 use borrow.Author.Needs.{needs}
 use Rattle.plan.proofs.put_figures.Statement.{statement}
 use Rattle.plan.proofs.put_figures.Tie as tie
-use Rattle.plan.proofs.put_figures.Reads as reads
-use Rattle.plan.proofs.put_figures.Lts as lts
 
--- src/lib.rt:152:12
 cast-s : tie.Need-cast-s
 cast-s c = search needs
 
--- src/lib.rt:152:5
 element-write-s : tie.Need-element-write-s
 element-write-s c = search needs
 
--- src/lib.rt:153:12
 cast-s-2 : tie.Need-cast-s-2
 cast-s-2 c = search needs
 
--- src/lib.rt:153:5
 element-write-s-2 : tie.Need-element-write-s-2
 element-write-s-2 c = search needs
 
--- src/lib.rt:154:12
 cast-s-3 : tie.Need-cast-s-3
 cast-s-3 c = search needs
 
--- src/lib.rt:154:5
 element-write-s-3 : tie.Need-element-write-s-3
 element-write-s-3 c = search needs
 
--- src/lib.rt:155:5
 element-write-s-4 : tie.Need-element-write-s-4
 element-write-s-4 c = search needs
 
--- src/lib.rt:156:5
 element-write-s-5 : tie.Need-element-write-s-5
 element-write-s-5 c = search needs
 
--- src/lib.rt:148:1
 returns : tie.Need-returns
 unfolding putFigures
 returns c = search needs

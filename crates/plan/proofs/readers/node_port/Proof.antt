@@ -1,36 +1,27 @@
-use borrow.Author.Tests.{eq-eqb, ne-eqb, le-leb, lt-leb}
+-- `node_port` meets its contract: each return by the tests that led there.
+use borrow.Author.Tests.{le-leb, lt-leb}
 use borrow.Author.Needs.{needs}
 use Rattle.plan.proofs.readers.node_port.Statement.{statement}
 use Rattle.plan.proofs.readers.node_port.Tie as tie
-use Rattle.plan.proofs.readers.node_port.Reads as reads
-use Rattle.plan.proofs.readers.node_port.Lts as lts
-use Rattle.plan.proofs.cells.put_node.Reads as put-node-reads
 
--- src/readers.rt:43:9
 returns : tie.Need-returns
 returns c = simp (le-leb _ _ (c .if1 .taken)) (search needs)
 
--- src/readers.rt:46:9
 returns-2 : tie.Need-returns-2
 returns-2 c = simp (lt-leb _ _ (c .before .if1 .left), le-leb _ _ (c .if2 .taken)) (search needs)
 
--- src/readers.rt:48:27
 add-put-node : tie.Need-add-put-node
 add-put-node c = search needs
 
--- src/readers.rt:48:34
 add-put-node-2 : tie.Need-add-put-node-2
 add-put-node-2 c = search needs
 
--- src/readers.rt:48:5
 put-node-requires : tie.Need-put-node-requires
 put-node-requires c κs = search needs
 
--- src/readers.rt:52:16
 add-t10 : tie.Need-add-t10
 add-t10 c = search needs
 
--- src/readers.rt:36:1
 returns-3 : tie.Need-returns-3
 returns-3 c = simp (lt-leb _ _ (c .before .before .before .if1 .left), lt-leb _ _ (c .before .before .if2 .left)) (search needs)
 
