@@ -1,3 +1,5 @@
+-- The theorems: PlanBy (the readers read what `reading` says), Tree.Taken, Tables.Drawn, TakenPlan, First. KindLaws, Tags, ReaderLaws, PortLaws and PlanLaws
+-- serve the proofs of the functions.
 pub mod Samples
 pub mod Agree
 pub mod PlanBy

@@ -1,3 +1,4 @@
+-- The tables of a tree within the limits satisfy what `rules` asks of a plan: Drawn has the theorems.
 pub mod Room
 pub mod Regions
 pub mod Puts

@@ -1,3 +1,4 @@
+-- A drawn tree is taken, and what is taken is a drawn tree: DrawnTaken, TakenDrawn, OneTree and Taken have the theorems.
 pub mod Room
 pub mod Count
 pub mod Figures

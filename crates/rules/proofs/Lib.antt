@@ -1,3 +1,5 @@
+-- The theorems: Agree and Control.Runs (turns agree, moves), AlwaysSound and AlwaysTold (what holds at every place of a run), Stable, Unchanged, Admission,
+-- Acceptance, NoTimeLost, Demand3 and ControlDemand3, Slips. The other files serve them.
 pub mod Choices
 pub mod InTurn
 pub mod Follows
