@@ -1,5 +1,5 @@
 #!/usr/bin/env python3
-"""Holds the program `plans` against an independent reader of document 01's plan, on random texts.
+"""Holds the program `plans` against a second reader of document 01's plan, on random texts.
 
     rt check plans && python3 tools/random_plans.py [SEED [BATCHES]]        default 1 20
 

@@ -1,5 +1,5 @@
 #!/usr/bin/env python3
-"""Holds the definitions of crates/rules against an independent model of document 01, on random lists of calls.
+"""Holds the definitions of crates/rules against a second model of document 01, on random lists of calls.
 
     python3 tools/random_runs.py [SEED [RUNS [CALLS]]]        default 1 100 80
 
