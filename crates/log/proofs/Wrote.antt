@@ -9,7 +9,7 @@ use lib.ListN.{length, take, length-append}
 use Rattle.rules.proofs.Clash.{clash}
 use Rattle.writer.specs.declared.Put.{Put}
 use Rattle.writer.specs.declared.Put.the-variants.{Behind, Short}
-use Rattle.writer.specs.Write.{overwrite, putAnswer, putBuffer}
+use Rattle.writer.specs.Write.{overwrite, putAnswer, putBuffer, putNumber, putRow}
 use Rattle.writer.proofs.Writes.{overwrite-none, overwrite-length, overwrite-append, take-overwrite, put-fits}
 
 -- buffer e is d with s written from place `start` on, and `at` is the place behind
@@ -41,6 +41,6 @@ module _ {d : List ℕ} {start : ℕ} {s : List ℕ} {at : ℕ} {e : List ℕ} (
   wrote-front room = rw (w .place, w .bytes) (take-overwrite d start s room)
 
 -- what is written may be put by another name
-pub put-same : (d : List ℕ) (at : ℕ) {s t : List ℕ} (r : Put) (e : List ℕ) → (r ≡ putAnswer d at s) × (e ≡ putBuffer d at s) → s ≡ t
-    → (r ≡ putAnswer d at t) × (e ≡ putBuffer d at t)
-put-same d at r e p same = (p .0 ∙ ap (putAnswer d at) same, p .1 ∙ ap (putBuffer d at) same)
+pub put-same : (d : List ℕ) (at : ℕ) {s t : List ℕ} (r : Put) (e : List ℕ) → (r ≡ putAnswer d at s) × (e ≡ putBuffer d at s) × (putNumber r ≡ putRow d at s) → s ≡ t
+    → (r ≡ putAnswer d at t) × (e ≡ putBuffer d at t) × (putNumber r ≡ putRow d at t)
+put-same d at r e p same = (p .0 ∙ ap (putAnswer d at) same, p .1 ∙ ap (putBuffer d at) same, p .2 ∙ ap (putRow d at) same)

@@ -6,7 +6,7 @@ use writer::Put;
 ghost use mathlib.Core.Path.{_≡_};
 ghost use lib.ListN.{length, take};
 ghost use Rattle.plan.specs.Reading.{reading, leaves};
-ghost use Rattle.writer.specs.Write.{putAnswer, putBuffer};
+ghost use Rattle.writer.specs.Write.{putAnswer, putBuffer, putNumber, putRow};
 ghost use Rattle.log.specs.Handed.{handed};
 ghost use Rattle.log.specs.FirstLine.{nodesHead, nodesLine, firstLine};
 
@@ -38,7 +38,7 @@ fn nodes_head(nodes: u32, head: &mut [u8; 32]) -> usize
 
 // `(nodes N hubs H)` and LF into the buffer from `at` on, or nothing.
 fn nodes_line(nodes: u32, hubs: u32, buffer: &mut [u8], at: usize) -> Put
-    ensures { λ r. ⌜ (r ≡ putAnswer (now (buffer .entry)) at (nodesLine nodes hubs)) × (now (buffer .exit) ≡ putBuffer (now (buffer .entry)) at (nodesLine nodes hubs)) ⌝ }
+    ensures { λ r. ⌜ (r ≡ putAnswer (now (buffer .entry)) at (nodesLine nodes hubs)) × (now (buffer .exit) ≡ putBuffer (now (buffer .entry)) at (nodesLine nodes hubs)) × (putNumber r ≡ putRow (now (buffer .entry)) at (nodesLine nodes hubs)) ⌝ }
 {
     let mut head = [0u8; 32];
     let end = nodes_head(nodes, &mut head);
@@ -50,6 +50,7 @@ fn nodes_line(nodes: u32, hubs: u32, buffer: &mut [u8], at: usize) -> Put
 pub fn first_line(answer: Answer, buffer: &mut [u8], at: usize) -> Put
     ensures { λ r. ⌜ r ≡ putAnswer (now (buffer .entry)) at (firstLine answer) ⌝ }
     ensures { λ r. ⌜ now (buffer .exit) ≡ putBuffer (now (buffer .entry)) at (firstLine answer) ⌝ }
+    ensures { λ r. ⌜ putNumber r ≡ putRow (now (buffer .entry)) at (firstLine answer) ⌝ }
 {
     match answer {
         Answer::Taken {
@@ -70,6 +71,7 @@ pub fn plan_line(text: &[u8], plan: &mut Plan, buffer: &mut [u8], at: usize) -> 
     ensures { λ r. ⌜ r ≡ putAnswer (now (buffer .entry)) at (firstLine (reading (handed (now (text .entry))) .answer)) ⌝ }
     ensures { λ r. ⌜ now (plan .exit) ≡ leaves (reading (handed (now (text .entry)))) (now (plan .entry)) ⌝ }
     ensures { λ r. ⌜ now (buffer .exit) ≡ putBuffer (now (buffer .entry)) at (firstLine (reading (handed (now (text .entry))) .answer)) ⌝ }
+    ensures { λ r. ⌜ putNumber r ≡ putRow (now (buffer .entry)) at (firstLine (reading (handed (now (text .entry))) .answer)) ⌝ }
 {
     let answer = plan::read(handed(text), plan);
     first_line(answer, buffer, at)

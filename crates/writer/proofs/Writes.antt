@@ -12,8 +12,11 @@ use lib.ListN.{length, take, drop, set, length-append, take-append-drop}
 use lib.Seq.{take-length, length-paste, length-paste-head, set-split, append-snoc, take-at, drop-append-add, paste, drop-drop, drop-at, length-take-le}
 use Rattle.text.specs.Part.{part}
 use Rattle.text.specs.Number.{digits, digitRun, readNumber, numberFrom, numberAt}
-use Rattle.writer.specs.Write.{overwrite, written, putBuffer, answered, putAnswer}
+use Rattle.writer.specs.Write.{overwrite, written, putBuffer, answered, putAnswer, putNumber, numbered, putRow}
+use Rattle.writer.specs.declared.Put.{Put}
 use Rattle.writer.specs.declared.Put.the-variants.{Behind, Short}
+use mathlib.Core.Bool.{Bool, true, false}
+use lib.Dec.{leb}
 use Rattle.text.specs.declared.Number.the-variants.{Value}
 use Rattle.text.proofs.Numbers.{read-written}
 
@@ -63,6 +66,18 @@ put-fits d at s h = (rw (le-leb (at + length s) (length d) h), rw (le-leb (at + 
 pub put-short : (d : List ℕ) (at : ℕ) (s : List ℕ) → length d < at + length s → (putAnswer d at s ≡ Short) × (putBuffer d at s ≡ d)
 unfolding putAnswer putBuffer answered written
 put-short d at s h = (rw (lt-leb (at + length s) (length d) h), rw (lt-leb (at + length s) (length d) h))
+
+-- document 01's number of the answer, by whether the bytes fit
+answer-number : (b : Bool) (behind : ℕ) → putNumber (answered b behind) ≡ numbered b
+unfolding putNumber answered numbered
+answer-number true behind = refl
+answer-number false behind = refl
+
+-- the answer and the buffer with that number: what each public function promises
+pub put-told : (d : List ℕ) (at : ℕ) (s : List ℕ) (r : Put) (e : List ℕ) → r ≡ putAnswer d at s → e ≡ putBuffer d at s
+    → (r ≡ putAnswer d at s) × (e ≡ putBuffer d at s) × (putNumber r ≡ putRow d at s)
+unfolding putAnswer putRow
+put-told d at s r e p q = (p, q, ap putNumber p ∙ answer-number (leb (at + length s) (length d)) (at + length s))
 
 -- what was written stands there
 pub part-overwrite : (d : List ℕ) (at : ℕ) (s : List ℕ) → at ≤ length d → part (overwrite d at s) at (at + length s) ≡ s

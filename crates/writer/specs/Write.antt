@@ -37,6 +37,14 @@ unfoldable pub putNumber : Put → ℕ
 putNumber (Behind place) = 0
 putNumber Short = 18
 
+-- the number that writing gives: 18 where the lent buffer is shorter than what is to be written, and 0 where that is written
+unfoldable pub numbered : Bool → ℕ
+numbered true = 0
+numbered false = 18
+
+unfoldable pub putRow : List ℕ → ℕ → List ℕ → ℕ
+putRow buffer at bytes = numbered (fits buffer at bytes)
+
 -- a whole line of the log: the form and its LF
 unfoldable pub drawLine : List ℕ → List ℕ → List ℕ
 drawLine word ns = drawForm word ns ++ (10 ∷ [])

@@ -6,7 +6,7 @@ ghost use Prim.Native.Nat.{_+_, _≤_, _<_};
 ghost use lib.Dec.{leb};
 ghost use lib.ListN.{length};
 ghost use Rattle.text.specs.Number.{digits};
-ghost use Rattle.writer.specs.Write.{overwrite, putAnswer, putBuffer, drawLine};
+ghost use Rattle.writer.specs.Write.{overwrite, putAnswer, putBuffer, putNumber, putRow, drawLine};
 
 // The place behind what was written, or: the buffer is too short.
 pub enum Put {
@@ -75,7 +75,7 @@ fn has_room(length: usize, at: usize, count: usize) -> bool
 
 // The word into the buffer from `at` on, or nothing.
 pub fn put_word(buffer: &mut [u8], at: usize, word: &[u8]) -> Put
-    ensures { λ r. ⌜ (r ≡ putAnswer (now (buffer .entry)) at (now (word .entry))) × (now (buffer .exit) ≡ putBuffer (now (buffer .entry)) at (now (word .entry))) ⌝ }
+    ensures { λ r. ⌜ (r ≡ putAnswer (now (buffer .entry)) at (now (word .entry))) × (now (buffer .exit) ≡ putBuffer (now (buffer .entry)) at (now (word .entry))) × (putNumber r ≡ putRow (now (buffer .entry)) at (now (word .entry))) ⌝ }
 {
     if !has_room(buffer.len(), at, word.len()) {
         return Put::Short;
@@ -85,7 +85,7 @@ pub fn put_word(buffer: &mut [u8], at: usize, word: &[u8]) -> Put
 
 // The number in decimal into the buffer from `at` on, or nothing.
 pub fn put_number(buffer: &mut [u8], at: usize, value: u64) -> Put
-    ensures { λ r. ⌜ (r ≡ putAnswer (now (buffer .entry)) at (digits value)) × (now (buffer .exit) ≡ putBuffer (now (buffer .entry)) at (digits value)) ⌝ }
+    ensures { λ r. ⌜ (r ≡ putAnswer (now (buffer .entry)) at (digits value)) × (now (buffer .exit) ≡ putBuffer (now (buffer .entry)) at (digits value)) × (putNumber r ≡ putRow (now (buffer .entry)) at (digits value)) ⌝ }
 {
     if !has_room(buffer.len(), at, number_length(value)) {
         return Put::Short;
@@ -132,7 +132,7 @@ fn numbers_to(buffer: &mut [u8], at: usize, numbers: &[u64]) -> usize
 
 // A whole line into the buffer from `at` on, or nothing: the word, each number behind a space, `)` and LF.
 pub fn put_form(buffer: &mut [u8], at: usize, word: &[u8], numbers: &[u64]) -> Put
-    ensures { λ r. ⌜ (r ≡ putAnswer (now (buffer .entry)) at (drawLine (now (word .entry)) (now (numbers .entry)))) × (now (buffer .exit) ≡ putBuffer (now (buffer .entry)) at (drawLine (now (word .entry)) (now (numbers .entry)))) ⌝ }
+    ensures { λ r. ⌜ (r ≡ putAnswer (now (buffer .entry)) at (drawLine (now (word .entry)) (now (numbers .entry)))) × (now (buffer .exit) ≡ putBuffer (now (buffer .entry)) at (drawLine (now (word .entry)) (now (numbers .entry)))) × (putNumber r ≡ putRow (now (buffer .entry)) at (drawLine (now (word .entry)) (now (numbers .entry)))) ⌝ }
 {
     if buffer.len() < at {
         return Put::Short;

@@ -49,7 +49,8 @@ returns c =
     let a = c .before .before .before .before .before .before .before .before .args in
     let g = c .before .before .before .before .before .answer .given in
     let p = c .before .before .nodes-line in
-    put-same (a .buffer .now) (a .at) (p .result) (p .last .1 .1 .0) (p .ensures) (taken (a .answer) (g .0 .0) (g .0 .1 .0) (g .0 .1 .1 .0) (g .0 .1 .1 .1 .0) (g .1))
+    let q = put-same (a .buffer .now) (a .at) (p .result) (p .last .1 .1 .0) (p .ensures) (taken (a .answer) (g .0 .0) (g .0 .1 .0) (g .0 .1 .1 .0) (g .0 .1 .1 .1 .0) (g .1)) in
+    (q .0, (q .1, q .2))
 
 same-length-2 : tie.Need-same-length-2
 same-length-2 c = search needs
@@ -59,7 +60,8 @@ returns-2 c =
     let a = c .before .before .before .before .before .before .before .before .before .before .args in
     let g = c .before .before .before .before .before .before .before .answer2 .given in
     let p = c .before .before .put-form in
-    put-same (a .buffer .now) (a .at) (p .result) (p .last .0) (p .ensures) (refused (a .answer) (g .0 .0) (g .0 .1 .0) (g .1))
+    let q = put-same (a .buffer .now) (a .at) (p .result) (p .last .0) (p .ensures) (refused (a .answer) (g .0 .0) (g .0 .1 .0) (g .1)) in
+    (q .0, (q .1, q .2))
 
 pub first-line-spec : {M : Type 1} → statement M
 first-line-spec =

@@ -5,7 +5,7 @@ use Prim.Native.Nat.{ℕ}
 use borrow.Author.Needs.{needs}
 use Rattle.plan.specs.declared.Answer.{Answer}
 use Rattle.plan.specs.Reading.{reading, leaves}
-use Rattle.writer.specs.Write.{putAnswer, putBuffer}
+use Rattle.writer.specs.Write.{putAnswer, putBuffer, putRow}
 use Rattle.log.specs.Handed.{handed}
 use Rattle.log.specs.FirstLine.{firstLine}
 use Rattle.log.proofs.plan_line.Statement.{statement}
@@ -33,7 +33,10 @@ returns c =
       p .ensures .0 ∙ ap (λ (x : Answer). putAnswer (a .buffer .now) (a .at) (firstLine x)) e,
       (
         r .read .ensures .1 ∙ ap (λ (t : List ℕ). leaves (reading t) (a .plan .now)) (h .ensures),
-        p .ensures .1 ∙ ap (λ (x : Answer). putBuffer (a .buffer .now) (a .at) (firstLine x)) e,
+        (
+          p .ensures .1 .0 ∙ ap (λ (x : Answer). putBuffer (a .buffer .now) (a .at) (firstLine x)) e,
+          p .ensures .1 .1 ∙ ap (λ (x : Answer). putRow (a .buffer .now) (a .at) (firstLine x)) e,
+        ),
       ),
     )
 

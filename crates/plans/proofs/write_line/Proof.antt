@@ -16,12 +16,12 @@ enum-known-end c = search needs
 array-share-prefix-line : tie.Need-array-share-prefix-line
 array-share-prefix-line c =
     let p = c .before .before .before .before .plan-line in
-    behind-within _ _ _ (p .ensures .0) (c .before .end .given .1) (p .ensures .1 .1)
+    behind-within _ _ _ (p .ensures .0) (c .before .end .given .1) (p .ensures .1 .1 .0)
 
 slice-aggregate-write-all : tie.Need-slice-aggregate-write-all
 slice-aggregate-write-all c =
     let p = c .before .before .before .before .before .plan-line in
-    behind-counts _ _ _ (p .ensures .0) (c .before .before .end .given .1) (p .ensures .1 .1)
+    behind-counts _ _ _ (p .ensures .0) (c .before .before .end .given .1) (p .ensures .1 .1 .0)
 
 write-all-requires : tie.Need-write-all-requires
 write-all-requires c κs = search needs

@@ -1,4 +1,4 @@
--- `text::put_form` meets its contract: where the whole line fits it writes the word and then the numbers behind it, and else it changes nothing.
+-- `writer::put_form` meets its contract: where the whole line fits it writes the word and then the numbers behind it, and else it changes nothing.
 -- Assumes nothing.
 use mathlib.Core.Path.{_≡_, sym, ap, _∙_}
 use mathlib.Core.List.{List, []}
@@ -10,7 +10,7 @@ use lib.ListN.{length, length-append}
 use Rattle.writer.specs.Write.{overwrite, drawLine}
 use Rattle.writer.specs.declared.Put.the-variants.{Behind}
 use Rattle.writer.proofs.Spaced.{line-behind}
-use Rattle.writer.proofs.Writes.{overwrite-append, put-fits, put-short}
+use Rattle.writer.proofs.Writes.{overwrite-append, put-fits, put-short, put-told}
 use Rattle.writer.proofs.put_form.Statement.{statement}
 use Rattle.writer.proofs.put_form.Tie as tie
 
@@ -30,7 +30,7 @@ returns : tie.Need-returns
 returns c =
     let a = c .before .before .before .before .args in
     let p = put-short (a .buffer .now) (a .at) (drawLine (a .word .now) (a .numbers .now)) (omega arith) in
-    (sym (p .0), sym (p .1))
+    put-told (a .buffer .now) (a .at) (drawLine (a .word .now) (a .numbers .now)) _ _ (sym (p .0)) (sym (p .1))
 
 sub-line-fits : tie.Need-sub-line-fits
 sub-line-fits c = search needs
@@ -43,7 +43,7 @@ returns-2 c =
     let a = c .before .before .before .before .before .before .args in
     let p = put-short (a .buffer .now) (a .at) (drawLine (a .word .now) (a .numbers .now))
     (omega (arith, leb-false (length (drawLine (a .word .now) (a .numbers .now))) (length (a .buffer .now) - a .at) (sym (c .before .line-fits .ensures) ∙ not-true _ (c .if2 .taken)))) in
-    (sym (p .0), sym (p .1))
+    put-told (a .buffer .now) (a .at) (drawLine (a .word .now) (a .numbers .now)) _ _ (sym (p .0)) (sym (p .1))
 
 copy-to-requires : tie.Need-copy-to-requires
 copy-to-requires c κs =
@@ -67,13 +67,13 @@ returns-3 c =
     let e = first .before .before in
     let a = e .before .before .before .before .before .before .args in
     let line : List ℕ = drawLine (a .word .now) (a .numbers .now) in
-    let p = put-fits (a .buffer .now) (a .at) line (fits e) in (
-      ap Behind (last .numbers-to .ensures .0 ∙ omega (arith, line-parts (a .word .now) (a .numbers .now), first .copy-to .ensures .0)) ∙ sym (p .0),
-      last .numbers-to .ensures .1
-          ∙ rw (first .copy-to .ensures .0, first .copy-to .ensures .1) (overwrite-append (a .buffer .now) (a .at) (a .word .now) (drawLine [] (a .numbers .now)) (omega (arith, fits e)))
-          ∙ ap (overwrite (a .buffer .now) (a .at)) (sym (line-behind (a .word .now) (a .numbers .now)))
-          ∙ sym (p .1),
-    )
+    let p = put-fits (a .buffer .now) (a .at) line (fits e) in
+    put-told (a .buffer .now) (a .at) line _ _
+    (ap Behind (last .numbers-to .ensures .0 ∙ omega (arith, line-parts (a .word .now) (a .numbers .now), first .copy-to .ensures .0)) ∙ sym (p .0))
+    (last .numbers-to .ensures .1
+    ∙ rw (first .copy-to .ensures .0, first .copy-to .ensures .1) (overwrite-append (a .buffer .now) (a .at) (a .word .now) (drawLine [] (a .numbers .now)) (omega (arith, fits e)))
+    ∙ ap (overwrite (a .buffer .now) (a .at)) (sym (line-behind (a .word .now) (a .numbers .now)))
+    ∙ sym (p .1))
 
 pub put-form-spec : {M : Type 1} → statement M
 put-form-spec =

@@ -1,4 +1,4 @@
--- `text::put_number` meets its contract: it writes the digits where there is room for them, and else changes nothing. Assumes nothing.
+-- `writer::put_number` meets its contract: it writes the digits where there is room for them, and else changes nothing. Assumes nothing.
 use mathlib.Core.Path.{_≡_, sym, ap, _∙_}
 use Prim.Native.Nat.{ℕ, _+_}
 use borrow.Author.Needs.{needs}
@@ -7,7 +7,7 @@ use lib.Dec.{leb}
 use lib.ListN.{length}
 use Rattle.text.specs.Number.{digits}
 use Rattle.writer.specs.declared.Put.the-variants.{Behind}
-use Rattle.writer.proofs.Writes.{put-fits, put-short}
+use Rattle.writer.proofs.Writes.{put-fits, put-short, put-told}
 use Rattle.writer.proofs.put_number.Statement.{statement}
 use Rattle.writer.proofs.put_number.Tie as tie
 
@@ -27,7 +27,7 @@ returns : tie.Need-returns
 returns c =
     let a = c .before .before .before .before .args in
     let p = put-short (a .buffer .now) (a .at) (digits (a .value)) (leb-false _ _ (sym (tested (c .before)) ∙ not-true _ (c .if1 .taken))) in
-    (sym (p .0), sym (p .1))
+    put-told (a .buffer .now) (a .at) (digits (a .value)) _ _ (sym (p .0)) (sym (p .1))
 
 digits-to-requires : tie.Need-digits-to-requires
 digits-to-requires c κs = leb-true _ _ (sym (tested (c .before .before)) ∙ not-false _ (c .before .if1 .left))
@@ -41,7 +41,7 @@ returns-2 c =
     let s = called .before .before .before in
     let a = s .before .before .before .args in
     let p = put-fits (a .buffer .now) (a .at) (digits (a .value)) (leb-true _ _ (sym (tested s) ∙ not-false _ (called .before .before .if1 .left))) in
-    (ap Behind (called .digits-to .ensures .0) ∙ sym (p .0), called .digits-to .ensures .1 ∙ sym (p .1))
+    put-told (a .buffer .now) (a .at) (digits (a .value)) _ _ (ap Behind (called .digits-to .ensures .0) ∙ sym (p .0)) (called .digits-to .ensures .1 ∙ sym (p .1))
 
 pub put-number-spec : {M : Type 1} → statement M
 put-number-spec =
