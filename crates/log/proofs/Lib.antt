@@ -1,4 +1,4 @@
--- For the programs: what was written lies within the buffer (Within). Wrote serves the proofs here; Samples are two lines by computing.
+-- For the programs: what was written lies within the buffer (Within). Wrote serves the proofs here and in `lines`; Samples are two lines by computing.
 pub mod Within
-mod Wrote
+pub mod Wrote
 mod Samples

@@ -1,12 +1,12 @@
--- What shifts and `or` do to the ports that a number shows, at any width.
+-- What shifts, `or`, `and` and `!` do to the ports that a number shows, at any width.
 use mathlib.Core.Path.{_≡_, refl, sym, ap, _∙_}
-use mathlib.Core.Bool.{false, _||_}
-use Prim.Native.Nat.{ℕ, zero, suc, _+_, _*_, _/_, _%_, _^_, _≤_, _<_, max}
+use mathlib.Core.Bool.{false, not, _&&_, _||_}
+use Prim.Native.Nat.{ℕ, zero, suc, _+_, _*_, _-_, _/_, _%_, _^_, _≤_, _<_, max, min}
 use native.Mathlib.Nat.{not-suc-le-zero, le-of-suc-le-suc, lt-of-lt-of-le, mod-lt, div-one, div-eq-of-lt, zero-lt-suc}
 use native.Mathlib.Numerals.{one-add}
 use native.Mathlib.Omega.{arith}
 use lib.Arith.{digits-mod}
-use lib.Bits.{bitOr, or-step, or-shr, shifted-half, shifted-even}
+use lib.Bits.{bitAnd, bitOr, and-step, and-shr, or-step, or-shr, shifted-half, shifted-even}
 use lib.Dec.{eqb}
 use lib.Pow.{pow-mono, shr-shr, shl-shr}
 use Rattle.ports.specs.Mask.{shows}
@@ -59,6 +59,47 @@ shows-or a b (suc i) =
     let y = b / 2 ^ i in
     ap (λ (n : ℕ). eqb (n % 2) 1) (or-shr a b i) ∙ ap (λ (n : ℕ). eqb n 1) (or-low x y)
     ∙ max-one (x % 2) (y % 2) (mod-lt x (zero-lt-suc 1)) (mod-lt y (zero-lt-suc 1))
+
+-- ---- and
+
+min-one : (r s : ℕ) → r < 2 → s < 2 → eqb (min r s) 1 ≡ (eqb r 1 && eqb s 1)
+min-one zero zero h k = refl
+min-one zero (suc zero) h k = refl
+min-one (suc zero) zero h k = refl
+min-one (suc zero) (suc zero) h k = refl
+min-one zero (suc (suc s)) h k = absurd (omega arith)
+min-one (suc zero) (suc (suc s)) h k = absurd (omega arith)
+min-one (suc (suc r)) s h k = absurd (omega arith)
+
+and-low : (a b : ℕ) → bitAnd a b % 2 ≡ min (a % 2) (b % 2)
+and-low a b = ap (λ (n : ℕ). n % 2) (and-step a b) ∙ digits-mod (bitAnd (a / 2) (b / 2)) (omega arith)
+
+pub shows-and : (a b p : ℕ) → shows (bitAnd a b) p ≡ (shows a p && shows b p)
+unfolding shows
+shows-and a b zero = refl
+shows-and a b (suc i) =
+    let x = a / 2 ^ i in
+    let y = b / 2 ^ i in
+    ap (λ (n : ℕ). eqb (n % 2) 1) (and-shr a b i) ∙ ap (λ (n : ℕ). eqb n 1) (and-low x y)
+    ∙ min-one (x % 2) (y % 2) (mod-lt x (zero-lt-suc 1)) (mod-lt y (zero-lt-suc 1))
+
+-- ---- not: of a number of k digits, by what is missing to k ones
+
+other-digit : (r : ℕ) → r < 2 → eqb (1 - r) 1 ≡ not (eqb r 1)
+other-digit zero h = refl
+other-digit (suc zero) h = refl
+other-digit (suc (suc r)) h = absurd (omega arith)
+
+pub shows-not : (k a p : ℕ) → a < 2 ^ k → 1 ≤ p → p ≤ k → shows (2 ^ k - 1 - a) p ≡ not (shows a p)
+shows-not k a zero h l u = absurd (omega arith)
+shows-not zero a (suc p) h l u = absurd (omega arith)
+shows-not (suc k) a (suc zero) h l u =
+    let low : (2 ^ suc k - 1 - a) % 2 ≡ 1 - a % 2 = omega arith in
+    shows-first (2 ^ suc k - 1 - a) ∙ ap (λ (n : ℕ). eqb n 1) low ∙ other-digit (a % 2) (omega arith) ∙ sym (ap not (shows-first a))
+shows-not (suc k) a (suc (suc i)) h l u =
+    let high : (2 ^ suc k - 1 - a) / 2 ≡ 2 ^ k - 1 - a / 2 = omega arith in
+    sym (shows-half (2 ^ suc k - 1 - a) i) ∙ ap (λ (n : ℕ). shows n (suc i)) high
+    ∙ shows-not k (a / 2) (suc i) (omega arith) (omega arith) (omega arith) ∙ ap not (shows-half a i)
 
 -- ---- a number of k digits shows no port above k
 

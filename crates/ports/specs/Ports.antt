@@ -1,5 +1,5 @@
 -- Sets of a hub's ports. A set is a test f, true of the ports in it.
-use mathlib.Core.Bool.{Bool, false, _&&_, _||_}
+use mathlib.Core.Bool.{Bool, false, not, _&&_, _||_}
 use mathlib.Core.List.{List}
 use Prim.Native.Nat.{ℕ, zero, suc}
 use lib.Dec.{eqb, leb}
@@ -17,6 +17,10 @@ summaryOf summaries (suc i) = getD summaries i false
 -- f, and port p as well where b holds
 unfoldable pub withPort : (ℕ → Bool) → ℕ → Bool → ℕ → Bool
 withPort f p b q = f q || (eqb q p && b)
+
+-- f, with port p in it just where b holds
+unfoldable pub putPort : (ℕ → Bool) → ℕ → Bool → ℕ → Bool
+putPort f p b q = (eqb q p && b) || (not (eqb q p) && f q)
 
 -- those of f at or after a pointer
 unfoldable pub atOrAfter : ℕ → (ℕ → Bool) → ℕ → Bool

@@ -1,6 +1,6 @@
 // A hub's ports as a mask of 32 bits: bit p - 1 says whether port p is shown. The contracts speak of ports alone.
 ghost use mathlib.Core.Path.{_≡_};
-ghost use Rattle.ports.specs.Ports.{summaryOf, withPort, atOrAfter, anyPort};
+ghost use Rattle.ports.specs.Ports.{summaryOf, withPort, putPort, atOrAfter, anyPort};
 ghost use Rattle.ports.specs.Mask.{shows, maskOf};
 ghost use Rattle.ports.specs.Search.{lowestFrom};
 
@@ -18,6 +18,17 @@ pub fn with_port(mask: u32, port: u32, shown: bool) -> u32
         return mask;
     }
     mask | ((shown as u32) << (port - 1))
+}
+
+// The mask with `port` shown just where `shown` holds, and the others as they were. A number that is no port changes nothing.
+pub fn put_port(mask: u32, port: u32, shown: bool) -> u32
+    ensures { λ r. ⌜ r ≡ maskOf (putPort (shows mask) port shown) ⌝ }
+{
+    if port < 1 || 32 < port {
+        return mask;
+    }
+    let bit: u32 = 1 << (port - 1);
+    (mask & !bit) | ((shown as u32) << (port - 1))
 }
 
 // The mask of a hub's port summaries. That of port p stands at p - 1.

@@ -1,0 +1,98 @@
+-- Every plan text that is taken, and every list of the six calls from its fresh table, meets the demands.
+use Prim.Native.Nat.{ℕ, _-_, _*_, _≤_}
+use mathlib.Core.Path.{_≡_, refl, sym, ap, ap₂, subst, subst₂, _∙_}
+use mathlib.Core.List.{List, map}
+use Rattle.rules.specs.Plan.{Plan, levels}
+use Rattle.rules.specs.Call.{Call, Answer}
+use Rattle.rules.specs.Core.{Core}
+use Rattle.rules.specs.Drawn.{Drawn}
+use Rattle.rules.specs.Machine.{Hub, perform}
+use Rattle.rules.specs.Control.{Control, control}
+use Rattle.rules.specs.Run.{Entry, made}
+use Rattle.rules.specs.Agree.{plain, movesOf, Every}
+use Rattle.rules.specs.Demand.{Holds3}
+use Rattle.rules.specs.Promises.{NoTimeLost, Admits}
+use Rattle.rules.proofs.Acceptance.{acceptable-taken, taken-acceptable}
+use Rattle.rules.proofs.AlwaysSound.{Good, good}
+use Rattle.rules.proofs.Control.Like.{control-follows}
+use Rattle.plan.specs.Tables.{planOf}
+use Rattle.plan.specs.Reading.{reading}
+use Rattle.plan.specs.Taken.{TakenAs}
+use Rattle.promises.specs.Promises.{Promises}
+use Rattle.promises.proofs.Promises.{drawn-promises}
+use Rattle.state.specs.Layout.{timeAt, clock-cell}
+use Rattle.state.specs.Decode.{planIn, coreOf, controlOf, hubOf}
+use Rattle.state.specs.Calls.{performBy}
+use Rattle.state.specs.Run.{madeBy}
+use Rattle.tie.specs.Kept.{Ready}
+use Rattle.tie.proofs.ReadyPlan.{ready, plan-in}
+use Rattle.tie.proofs.Performed.{Agrees, performed}
+use Rattle.tie.proofs.Runs.{RunTied, run-tied}
+use Rattle.demands.specs.Demands.{Calls, callsOf, Demands}
+use Rattle.demands.proofs.Unchanged.{refusal-unchanged, quiet-unchanged}
+use Rattle.demands.proofs.Sequence.{Made, sequence}
+
+clock-cells : (p : Plan) (s : List ℕ) → coreOf p s .clock ≡ timeAt s clock-cell
+unfolding coreOf
+clock-cells p s = refl
+
+module _ (P : List ℕ) (R : Ready P) (past : List Entry) (m : Made P past (madeBy P (callsOf past) .cells)) where
+  abbrev p : Plan
+  p = planIn P
+
+  abbrev calls : List Call
+  calls = callsOf past
+
+  abbrev s : List ℕ
+  s = madeBy P calls .cells
+
+  tied : RunTied P calls
+  tied = run-tied P R calls
+
+  kept : Promises p calls
+  kept = drawn-promises (planIn P) (R .drawn) calls
+
+  same : past ≡ made p (control p) calls .past
+  same = m .past-is ∙ tied .past
+
+  agrees : (call : Call) → Agrees p (performBy P call s) (perform p (control p) call (hubOf p s))
+  agrees call =
+      performed P R s (tied .kept)
+      (subst (Good (planIn P) (R .drawn .figures) (control (planIn P)) (control-follows (planIn P) (R .drawn))) (sym (tied .hub))
+      (good (planIn P) (R .drawn .figures) (control (planIn P)) (control-follows (planIn P) (R .drawn)) (R .drawn .some-node) calls))
+      call
+
+  leaves : (call : Call) → hubOf p (performBy P call s .cells) ≡ perform p (control p) call (hubOf p s) .hub
+  leaves call = ap₂ (λ (c : Core) (σ : Control). record { core = c; turn = σ }) (agrees call .left .core) (agrees call .left .control)
+
+  meets : Demands P p past s
+  meets =
+      record {
+        turns-agree = ap (map plain) same ∙ kept .turns-agree;
+        by-rules = same;
+        few-moves = subst (Every (λ a. movesOf a ≤ 4 * (levels p - 1))) (sym same) (kept .few-moves);
+        demand-3 = subst (Holds3 p) (sym same) (kept .demand-3);
+        hub = tied .hub;
+        answers = λ call. agrees call .answer;
+        leaves = leaves;
+        no-time-lost = subst (NoTimeLost p (control p)) (sym (tied .hub)) (kept .no-time-lost);
+        clock-grows = grows;
+        refusal-changes-nothing = refusal-unchanged P s;
+        quiet-changes-nothing = quiet-unchanged P s;
+        admits = subst₂ (Admits p) (sym same) (ap (λ (h : Hub Control). h .core) (sym (tied .hub))) (kept .admits);
+        takes = λ call a. agrees call .answer ∙ acceptable-taken p (control p) call (hubOf p s) a;
+        takes-only = λ call e. taken-acceptable p (control p) call (hubOf p s) (sym (agrees call .answer) ∙ e);
+      }
+    where
+      grows : (call : Call) → timeAt s clock-cell ≤ timeAt (performBy P call s .cells) clock-cell
+      grows call =
+          subst₂ _≤_ (clock-cells p s) (ap (λ (h : Hub Control). h .core .clock) (sym (leaves call)) ∙ clock-cells p (performBy P call s .cells))
+          (subst (λ (h : Hub Control). h .core .clock ≤ perform p (control p) call h .hub .core .clock) (sym (tied .hub)) (kept .clock-grows call))
+
+pub demands : (text : List ℕ) (nodes hubs at line : ℕ) → TakenAs text nodes hubs at line → (past : List Entry) (z : List ℕ)
+    → Calls (reading text .tables) past z → Demands (reading text .tables) (planOf (reading text .tables)) past z
+demands text nodes hubs at line t past z c =
+    let P = reading text .tables in
+    let m = sequence P c in
+    subst₂ (λ (p : Plan) (r : List ℕ). Demands P p past r) (plan-in text nodes hubs at line t) (sym (m .cells-are))
+    (meets P (ready text nodes hubs at line t) past (record { past-is = m .past-is; cells-are = refl }))

@@ -1,0 +1,4 @@
+-- Every plan text that is taken, and every list of the six calls from its fresh table, meets the demands.
+pub mod Unchanged
+pub mod Sequence
+pub mod Demands

@@ -1,0 +1,76 @@
+-- The demands, of the entry points as they can be called. Their contracts (hub/src/lib.rt, table/src/lib.rt) are these, for every content of both tables:
+--
+--   fresh(s)                 leaves freshCells
+--   normal(p, s, t, k, b)    EventPromise P (ask normal t k b) s r z
+--   high(p, s, t, k, b)      EventPromise P (ask high t k b) s r z
+--   off(p, s, t, k)          EventPromise P (off t k) s r z
+--   reserve(p, s, t, k, n, b) EventPromise P (reserve t k n b) s r z
+--   until(p, s, t)           EventPromise P (until t) s r z
+--   step(p, s, t)            StepPromise P t s r z
+--
+-- where P and s are the cells at entry, r is the answer and z the cascade's cells at exit. Below: what follows for every plan text that is taken and every
+-- list of such calls from its fresh table.
+use Prim.Native.Nat.{ℕ, _-_, _*_, _≤_}
+use mathlib.Core.Path.{_≡_}
+use mathlib.Core.Bool.{true}
+use mathlib.Core.List.{List, [], _∷_, map}
+use Rattle.rules.specs.Plan.{Plan, levels}
+use Rattle.rules.specs.Call.{Call, step, Answer, taken, refused, quiet}
+use Rattle.rules.specs.Machine.{perform}
+use Rattle.rules.specs.Flat.{flat}
+use Rattle.rules.specs.Control.{control}
+use Rattle.rules.specs.Run.{Entry, made}
+use Rattle.rules.specs.Agree.{plain, movesOf, Every}
+use Rattle.rules.specs.Demand.{Holds3}
+use Rattle.rules.specs.Promises.{NoTimeLost, Admits, Acceptable}
+use Rattle.state.specs.declared.Step.{Step}
+use Rattle.state.specs.Layout.{timeAt, clock-cell}
+use Rattle.state.specs.Decode.{hubOf, coreOf}
+use Rattle.state.specs.Fresh.{freshCells}
+use Rattle.state.specs.Calls.{isEvent, EventPromise, StepPromise, eventAnswer, stepAnswer, performBy}
+
+-- A list of calls made one after the other on one table, with their answers, the latest first, and the table that they left: the first call gets the
+-- fresh table, each later one what the last left, and nobody else writes to it meanwhile. Refused calls and quiet steps stand in it too.
+pub data Calls (P : List ℕ) : List Entry → List ℕ → Type 0 where
+  before : Calls P [] freshCells
+  event : {past : List Entry} {s : List ℕ} → Calls P past s → (call : Call) → isEvent call ≡ true → (r : ℕ) (z : List ℕ) → EventPromise P call s r z
+      → Calls P (record { call = call; answer = eventAnswer r } ∷ past) z
+  stepping : {past : List Entry} {s : List ℕ} → Calls P past s → (t : ℕ) (r : Step) (z : List ℕ) → StepPromise P t s r z
+      → Calls P (record { call = step t; answer = stepAnswer r } ∷ past) z
+
+-- the calls of such a list
+abbrev pub callsOf : List Entry → List Call
+callsOf past = map (λ (e : Entry). e .call) past
+
+module _ (P : List ℕ) (p : Plan) (past : List Entry) (s : List ℕ) where
+  -- one more call: its answer, and the cells that it leaves
+  abbrev pub answerTo : Call → Answer
+  answerTo call = performBy P call s .answer
+
+  abbrev pub cellsAfter : Call → List ℕ
+  cellsAfter call = performBy P call s .cells
+
+  pub record Demands : Type 0 where
+    -- Demand 2: the same events are taken and refused as by the flat hub, and each grant, with time, class and end, is the flat hub's
+    pub turns-agree : map plain past ≡ map plain (made p (flat p) (callsOf past) .past)
+    -- the answers, moves among them, are those of the hub-by-hub rules
+    pub by-rules : past ≡ made p (control p) (callsOf past) .past
+    -- at most 4 × (L - 1) moves in each grant and rest
+    pub few-moves : Every (λ a. movesOf a ≤ 4 * (levels p - 1)) past
+    -- Demand 3, one claim over the whole list
+    pub demand-3 : Holds3 p past
+    -- the cells are the hub that the calls left, and each further call answers as the rules do on that hub
+    pub hub : hubOf p s ≡ made p (control p) (callsOf past) .hub
+    pub answers : (call : Call) → answerTo call ≡ perform p (control p) call (hubOf p s) .answer
+    pub leaves : (call : Call) → hubOf p (cellsAfter call) ≡ perform p (control p) call (hubOf p s) .hub
+    -- No time is lost, and the clock never goes back
+    pub no-time-lost : NoTimeLost p (control p) (hubOf p s)
+    pub clock-grows : (call : Call) → timeAt s clock-cell ≤ timeAt (cellsAfter call) clock-cell
+    -- Demand 1: a refusal changes no cell, and neither does quiet
+    pub refusal-changes-nothing : (call : Call) (n : ℕ) → answerTo call ≡ refused n → cellsAfter call ≡ s
+    pub quiet-changes-nothing : (call : Call) → answerTo call ≡ quiet → cellsAfter call ≡ s
+    -- Admission keeps its promise: no frame is overfilled
+    pub admits : Admits p past (coreOf p s)
+    -- An event is refused where a row says so, and nowhere else
+    pub takes : (call : Call) → Acceptable p (coreOf p s) call → answerTo call ≡ taken
+    pub takes-only : (call : Call) → answerTo call ≡ taken → Acceptable p (coreOf p s) call

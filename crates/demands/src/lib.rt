@@ -1,0 +1,1 @@
+// Theory alone: what the six calls promise, and what follows for every list of them.

@@ -1,0 +1,54 @@
+-- The sum of all loads: its steps, a bound, and that within the nodes the latest reservations are the cells'.
+use Prim.Native.Nat.{ℕ, zero, suc, _+_, _-_, _*_, _/_, _%_, _≤_, _<_}
+use mathlib.Core.Path.{_≡_, refl, sym, ap, _∙_}
+use mathlib.Core.List.{List}
+use native.Mathlib.Omega.{arith}
+use native.Mathlib.Numerals.{unary-clauses}
+use native.Mathlib.Nat.{mul-le-mul}
+use lib.ListN.{getD}
+use borrow.Author.Tests.{le-leb}
+use Rattle.rules.specs.Choice.{sum}
+use Rattle.rules.specs.Rows.{load, loads}
+use Rattle.rules.proofs.Choices.{sum-same}
+use Rattle.plan.specs.Tables.{planOf}
+use Rattle.state.specs.Layout.{shareOf, latestCell}
+use Rattle.state.specs.Decode.{planIn, coreOf}
+
+-- each load is below 2^50
+pub load-small :
+    (overhead share : ℕ) → overhead < 4294967296 → share < 4294967296 → share / 65536 * (share % 65536 + overhead) ≤ 1125899906842624
+load-small overhead share o s =
+    let least : share / 65536 ≤ 65535 = omega arith in
+    let other : share % 65536 + overhead ≤ 4295032830 = omega arith in
+    omega (arith, mul-le-mul least other)
+
+sum-more : (n : ℕ) (f : ℕ → ℕ) → (n ≡ 0 → ⊥) → sum (n - 1) f + f n ≡ sum n f
+unfolding sum
+sum-more zero f h = absurd (h refl)
+sum-more (suc n) f h = simp unary-clauses
+
+-- a node's load by its cell
+abbrev pub cellLoad : List ℕ → List ℕ → ℕ → ℕ
+cellLoad P s k = load (planIn P) (shareOf (getD s (latestCell k) 0))
+
+module _ (P s : List ℕ) (n : ℕ) where
+  pub no-load : n ≡ 0 → 0 ≡ sum n (cellLoad P s)
+  unfolding sum
+  no-load e = rw e
+
+  pub one-load-more :
+      (less own : ℕ) →
+      (n ≡ 0 → ⊥) →
+      less ≡ sum (n - 1) (cellLoad P s) →
+      own ≡ getD s (latestCell n) 0 / 65536 * (getD s (latestCell n) 0 % 65536 + getD P 1 0) →
+      less + own ≡ sum n (cellLoad P s)
+  unfolding planOf
+  one-load-more less own h l o = rw (l, o) (sum-more n (cellLoad P s) h)
+
+  -- within the nodes the guard of `latest` is met
+  pub latest-loads : (r : ℕ) → n ≡ planIn P .nodes → r ≡ sum n (cellLoad P s) → r ≡ loads (planIn P) (coreOf (planIn P) s .latest)
+  unfolding coreOf
+  latest-loads r e h =
+      h
+      ∙ ap (λ (m : ℕ). sum m (cellLoad P s)) e
+      ∙ sum-same (planIn P .nodes) _ _ (λ k w. sym (simp (le-leb 1 k (w .low), le-leb k (planIn P .nodes) (w .up))))

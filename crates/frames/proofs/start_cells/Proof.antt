@@ -1,0 +1,84 @@
+-- `frames::start_cells` meets its contract: three stores.
+use native.Mathlib.Nat.{add-zero}
+use borrow.Author.Needs.{needs}
+use Rattle.state.specs.Frames.{startCells}
+use Rattle.frames.proofs.start_cells.Statement.{statement}
+use Rattle.frames.proofs.start_cells.Tie as tie
+
+sub-at : tie.Need-sub-at
+sub-at c = search needs
+
+mul-at : tie.Need-mul-at
+mul-at c = search needs
+
+add-at : tie.Need-add-at
+add-at c = search needs
+
+add-share : tie.Need-add-share
+add-share c = search needs
+
+mul-share : tie.Need-mul-share
+mul-share c = search needs
+
+element-copy-out-share : tie.Need-element-copy-out-share
+element-copy-out-share c = search needs
+
+mul-turned : tie.Need-mul-turned
+mul-turned c = search needs
+
+element-copy-out-turned : tie.Need-element-copy-out-turned
+element-copy-out-turned c = search needs
+
+turned-requires : tie.Need-turned-requires
+turned-requires c κs = search needs
+
+mul-s : tie.Need-mul-s
+mul-s c = search needs
+
+element-write-s : tie.Need-element-write-s
+element-write-s c = search needs
+
+add-s : tie.Need-add-s
+add-s c = search needs
+
+mul-s-2 : tie.Need-mul-s-2
+mul-s-2 c = search needs
+
+element-write-s-2 : tie.Need-element-write-s-2
+element-write-s-2 c = search needs
+
+add-s-2 : tie.Need-add-s-2
+add-s-2 c = search needs
+
+mul-s-3 : tie.Need-mul-s-3
+mul-s-3 c = search needs
+
+element-write-s-3 : tie.Need-element-write-s-3
+element-write-s-3 c = search needs
+
+returns : tie.Need-returns
+unfolding startCells
+returns c = simp (add-zero, c .turned .ensures)
+
+pub start-cells-spec : {M : Type 1} → statement M
+start-cells-spec =
+    tie.close
+    (tie.spec
+    sub-at
+    mul-at
+    add-at
+    add-share
+    mul-share
+    element-copy-out-share
+    mul-turned
+    element-copy-out-turned
+    turned-requires
+    mul-s
+    element-write-s
+    add-s
+    mul-s-2
+    element-write-s-2
+    add-s-2
+    mul-s-3
+    element-write-s-3
+    returns)

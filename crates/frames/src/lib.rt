@@ -1,0 +1,141 @@
+// Frames: the clock, what a frame's start changes, and the sum of all reservations.
+// No public function has a `requires`: each says its answer and the whole table that it leaves, for every content, by a definition of `state`.
+use plan::Plan;
+use state::Cascade;
+ghost use mathlib.Core.Path.{_≡_};
+ghost use Prim.Native.Nat.{_+_, _*_, _/_, _%_, _≤_, _<_};
+ghost use lib.ListN.{getD};
+ghost use Rattle.rules.specs.Choice.{sum};
+ghost use Rattle.rules.specs.Core.{turned};
+ghost use Rattle.rules.specs.Rows.{load, loads};
+ghost use Rattle.state.specs.Layout.{requestOf, requestCode, shareOf, latestCell};
+ghost use Rattle.state.specs.Decode.{planIn, coreOf};
+ghost use Rattle.state.specs.Frames.{startCells, startNode, startNodes, newFrame, advanceBy};
+
+// How many nodes the plan has; no more than the table has cells for.
+pub fn nodes(p: &Plan) -> u32
+    ensures { λ r. ⌜ r ≡ planIn (now (p .entry)) .nodes ⌝ }
+{
+    let n = p[3];
+    if n < 256 { n } else { 256 }
+}
+
+// The frame that a time lies in. A plan that was taken has no frame of 0.
+pub fn frame_of(frame: u32, t: u64) -> u64
+    ensures { λ r. ⌜ r ≡ t / frame ⌝ }
+{
+    if frame == 0 {
+        return 0;
+    }
+    t / frame as u64
+}
+
+// What becomes of a request's cell at a frame's start, by the reservation that comes into force.
+fn turned(share: u32, x: u32) -> u32
+    ensures { λ r. ⌜ r ≡ requestCode (turned (shareOf share) (requestOf x)) ⌝ }
+{
+    if x < 65536 {
+        return 0;
+    }
+    let bits = x % 65536;
+    if x < 131072 {
+        return 65536 + bits;
+    }
+    if share < 65536 {
+        return 65536 + bits;
+    }
+    if share % 65536 < bits {
+        return 65536 + bits;
+    }
+    131072 + bits
+}
+
+fn start_cells(s: &mut Cascade, k: u32)
+    requires { ⌜ (1 ≤ k) × (k ≤ 256) ⌝ }
+    ensures { λ _. ⌜ now (s .exit) ≡ startCells k (now (s .entry)) ⌝ }
+{
+    let at = 136 + (k as usize - 1) * 4;
+    let share = s[at + 2];
+    s[at] = turned(share, s[at]);
+    s[at + 1] = share;
+    s[at + 3] = 0;
+}
+
+// Node k at a frame's start. Only a request that was high changes what counts.
+fn start_node(p: &Plan, s: &mut Cascade, k: u32)
+    requires { ⌜ (1 ≤ k) × (k ≤ 256) ⌝ }
+    ensures { λ _. ⌜ now (s .exit) ≡ startNode (now (p .entry)) k (now (s .entry)) ⌝ }
+{
+    let at = 136 + (k as usize - 1) * 4;
+    let x = s[at];
+    start_cells(s, k);
+    if x < 131072 {
+        return;
+    }
+    table::mend_node(p, s, k);
+}
+
+// Nodes n to 1.
+fn start_nodes(p: &Plan, s: &mut Cascade, n: u32)
+    requires { ⌜ n ≤ 256 ⌝ }
+    ensures { λ _. ⌜ now (s .exit) ≡ startNodes (now (p .entry)) n (now (s .entry)) ⌝ }
+{
+    if n == 0 {
+        return;
+    }
+    start_node(p, s, n);
+    start_nodes(p, s, n - 1);
+}
+
+// Whether the clock's frame ends before t.
+pub fn new_frame(p: &Plan, s: &Cascade, t: u64) -> bool
+    ensures { λ r. ⌜ r ≡ newFrame (planIn (now (p .entry))) t (now (s .entry)) ⌝ }
+{
+    frame_of(p[0], table::clock(s)) < frame_of(p[0], t)
+}
+
+// The clock comes to t.
+pub fn advance(p: &Plan, s: &mut Cascade, t: u64)
+    ensures { λ _. ⌜ now (s .exit) ≡ advanceBy (now (p .entry)) t (now (s .entry)) ⌝ }
+{
+    if new_frame(p, s, t) {
+        start_nodes(p, s, nodes(p));
+    }
+    table::put_clock(s, t);
+}
+
+// n × (b + O) of a reservation's cell.
+pub fn load(overhead: u32, share: u32) -> u64
+    ensures { λ r. ⌜ r ≡ share / 65536 * (share % 65536 + overhead) ⌝ }
+{
+    (share / 65536) as u64 * ((share % 65536) as u64 + overhead as u64)
+}
+
+// The same with a bound, by which the sum of 256 of them fits.
+fn small_load(overhead: u32, share: u32) -> u64
+    ensures { λ r. ⌜ r ≡ share / 65536 * (share % 65536 + overhead) ⌝ }
+    ensures { λ r. ⌜ r ≤ 1125899906842624 ⌝ }
+{
+    load(overhead, share)
+}
+
+// The loads of nodes n to 1.
+fn loads_to(p: &Plan, s: &Cascade, n: u32) -> u64
+    requires { ⌜ n ≤ 256 ⌝ }
+    ensures { λ r. ⌜ r ≡ sum n (λ k. load (planIn (now (p .entry))) (shareOf (getD (now (s .entry)) (latestCell k) 0))) ⌝ }
+    ensures { λ r. ⌜ r ≤ n * 1125899906842624 ⌝ }
+{
+    if n == 0 {
+        return 0;
+    }
+    let at = 136 + (n as usize - 1) * 4 + 2;
+    loads_to(p, s, n - 1) + small_load(p[1], s[at])
+}
+
+// The sum of n × (b + O) over all nodes, by their latest accepted reservations.
+pub fn loads(p: &Plan, s: &Cascade) -> u64
+    ensures { λ r. ⌜ r ≡ loads (planIn (now (p .entry))) (coreOf (planIn (now (p .entry))) (now (s .entry)) .latest) ⌝ }
+    ensures { λ r. ⌜ r ≤ 288230376151711744 ⌝ }
+{
+    loads_to(p, s, nodes(p))
+}

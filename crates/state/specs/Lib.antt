@@ -1,0 +1,10 @@
+-- The cascade as a table of cells: what stands where, the hub that the cells are, and what each call leaves. Read them in this order.
+pub mod Layout
+pub mod Decode
+pub mod Masks
+pub mod Frames
+pub mod Instants
+pub mod Turns
+pub mod Fresh
+pub mod Calls
+pub mod Run

@@ -1,0 +1,5 @@
+-- What the functions' proofs cite.
+pub mod Counting
+pub mod Pointing
+pub mod MendLaws
+pub mod NodeLaws

@@ -1,0 +1,21 @@
+-- The laws that tie the cells of the cascade to the hub of `rules`.
+pub mod ReadyPlan
+pub mod Same
+pub mod Line
+pub mod Mend
+pub mod Climb
+pub mod Mended
+pub mod Changed
+pub mod Standing
+pub mod Requested
+pub mod Granted
+pub mod Headed
+pub mod Started
+pub mod Bounds
+pub mod Reserved
+pub mod Instants
+pub mod FreshTied
+pub mod Walked
+pub mod Rested
+pub mod Performed
+pub mod Runs

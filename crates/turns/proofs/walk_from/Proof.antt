@@ -1,0 +1,64 @@
+-- `walk_from` meets its contract: the class of the latest grant says where the walk starts.
+use mathlib.Core.Path.{sym, ap, ap₂, _∙_}
+use Prim.Native.Nat.{ℕ}
+use native.Mathlib.Omega.{arith}
+use lib.ListN.{getD}
+use Rattle.state.specs.Turns.{Turned, walkBy}
+use Rattle.turns.proofs.Looks.{byte-digit}
+use Rattle.turns.proofs.Walks.{class-kept, class-changed}
+use borrow.Author.Needs.{needs}
+use Rattle.turns.proofs.walk_from.Statement.{statement}
+use Rattle.turns.proofs.walk_from.Tie as tie
+
+element-copy-out-holder : tie.Need-element-copy-out-holder
+element-copy-out-holder c = search needs
+
+element-copy-out-if1 : tie.Need-element-copy-out-if1
+element-copy-out-if1 c = search needs
+
+cast-if1 : tie.Need-cast-if1
+cast-if1 c = search needs
+
+walk-requires : tie.Need-walk-requires
+walk-requires c κs = search needs
+
+returns : tie.Need-returns
+returns c =
+    let a = c .before .before .before .before .before .args in
+    let e = class-kept (a .p .now) (a .high) (a .s .now) (c .before .before .if1 .taken ∙ byte-digit (a .high)) in (
+      c .walk .ensures .0 ∙ ap (λ (n : ℕ). walkBy (a .p .now) (a .high) 15 (getD (a .s .now) 5 0) n (a .s .now) .turn) (omega arith)
+          ∙ sym (ap (λ (d : Turned). d .turn) e),
+      c .walk .ensures .1 .0 ∙ ap (λ (n : ℕ). walkBy (a .p .now) (a .high) 15 (getD (a .s .now) 5 0) n (a .s .now) .cells) (omega arith)
+          ∙ sym (ap (λ (d : Turned). d .cells) e),
+    )
+
+climb-requires : tie.Need-climb-requires
+climb-requires c κs = search needs
+
+walk-requires-2 : tie.Need-walk-requires-2
+walk-requires-2 c κs = search needs
+
+returns-2 : tie.Need-returns-2
+returns-2 c =
+    let w = c .before .before in
+    let a = w .before .before .before .before .args in
+    let e = class-changed (a .p .now) (a .high) (a .s .now) (λ f. w .before .if1 .left (f ∙ sym (byte-digit (a .high)))) in
+    let m = w .climb .ensures .0 in (
+      c .walk2 .ensures .0 ∙ ap₂ (λ (g n : ℕ). walkBy (a .p .now) (a .high) 15 g n (a .s .now) .turn) (omega arith) m
+          ∙ sym (ap (λ (d : Turned). d .turn) e),
+      c .walk2 .ensures .1 .0 ∙ ap₂ (λ (g n : ℕ). walkBy (a .p .now) (a .high) 15 g n (a .s .now) .cells) (omega arith) m
+          ∙ sym (ap (λ (d : Turned). d .cells) e),
+    )
+
+pub walk-from-spec : {M : Type 1} → statement M
+walk-from-spec =
+    tie.close
+    (tie.spec
+    element-copy-out-holder
+    element-copy-out-if1
+    cast-if1
+    walk-requires
+    returns
+    climb-requires
+    walk-requires-2
+    returns-2)
