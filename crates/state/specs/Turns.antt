@@ -27,7 +27,7 @@ pub record Turned : Type 0 where
   pub turn : Turn
   pub cells : List ℕ
 
-module _ (P : List ℕ) (isHigh : Bool) where
+module _ (isHigh : Bool) where
   -- rule 3, a hub h found at port q of hub g: the pointer is that port, marked; h resumes if it was so before, and else starts afresh at port 1
   unfoldable pub downBy : ℕ → ℕ → ℕ → List ℕ → List ℕ
   downBy g q h s =
@@ -47,14 +47,15 @@ module _ (P : List ℕ) (isHigh : Bool) where
       (if ltb 32 q then record { look = Stop; cells = s } else record { look = Pass h; cells = set s (pointerCell isHigh h) (unmarkedCode (q + 1)) })
       (record { look = Stop; cells = s })
 
+module _ (P : List ℕ) (isHigh : Bool) where
   -- rule 4: the root goes to port 1, unmarked
   unfoldable pub handUpBy : ℕ → List ℕ → Looked
   handUpBy g s =
       if eqb g 1 then record { look = Round; cells = set s (pointerCell isHigh 1) (unmarkedCode 1) }
-      else upBy (getD P (plan.hubCell g 1) 0) (getD P (plan.hubCell g 2) 0) s
+      else upBy isHigh (getD P (plan.hubCell g 1) 0) (getD P (plan.hubCell g 2) 0) s
 
   unfoldable pub foundBy : ℕ → Found → List ℕ → Looked
-  foundBy g (found.Port q) s = takeBy g q (plan.portOf (getD P (plan.portCell g q) 0)) s
+  foundBy g (found.Port q) s = takeBy isHigh g q (plan.portOf (getD P (plan.portCell g q) 0)) s
   foundBy g found.Nothing s = handUpBy g s
 
   -- one look at hub g

@@ -39,51 +39,51 @@ found-port f pointer q e =
 pub looked : {r : Look} {t : List ℕ} {w : Looked} → w ≡ record { look = r; cells = t } → (r ≡ w .look) × (t ≡ w .cells)
 looked e = (sym (ap (λ (w : Looked). w .look) e), sym (ap (λ (w : Looked). w .cells) e))
 
-module _ (P : List ℕ) (high : Bool) (g q : ℕ) (s : List ℕ) where
+module _ (high : Bool) (g q : ℕ) (s : List ℕ) where
   module _ (h at : ℕ) (e : at ≡ pointerCell high g) where
-    pub down-resumed : getD s at 0 ≡ q * 2 + 1 → set s at (q * 2 + 1) ≡ downBy P high g q h s
+    pub down-resumed : getD s at 0 ≡ q * 2 + 1 → set s at (q * 2 + 1) ≡ downBy high g q h s
     unfolding downBy
     down-resumed same = rw e (let f = rw e at same in simp (eq-eqb _ _ f))
 
-    pub down-afresh : (getD s at 0 ≡ q * 2 + 1 → ⊥) → set (set s at (q * 2 + 1)) (pointerCell high h) 2 ≡ downBy P high g q h s
+    pub down-afresh : (getD s at 0 ≡ q * 2 + 1 → ⊥) → set (set s at (q * 2 + 1)) (pointerCell high h) 2 ≡ downBy high g q h s
     unfolding downBy
     down-afresh other = rw e (let f = rw e at other in simp (ne-eqb _ _ f))
 
   module _ (x : ℕ) where
-    pub take-empty : x ≡ 0 → takeBy P high g q (plan.portOf x) s ≡ record { look = Stop; cells = s }
+    pub take-empty : x ≡ 0 → takeBy high g q (plan.portOf x) s ≡ record { look = Stop; cells = s }
     unfolding takeBy
     take-empty none = simp (eq-eqb _ _ none)
 
     pub take-node : (x ≡ 0 → ⊥) → x ≤ 256
-        → takeBy P high g q (plan.portOf x) s ≡ record { look = Node x; cells = set s (pointerCell high g) ((q + 1) * 2) }
+        → takeBy high g q (plan.portOf x) s ≡ record { look = Node x; cells = set s (pointerCell high g) ((q + 1) * 2) }
     unfolding takeBy
     take-node some low = simp (ne-eqb _ _ some, le-leb _ _ low)
 
-    pub take-beyond : 256 < x → 32 < x - 256 → takeBy P high g q (plan.portOf x) s ≡ record { look = Stop; cells = s }
+    pub take-beyond : 256 < x → 32 < x - 256 → takeBy high g q (plan.portOf x) s ≡ record { look = Stop; cells = s }
     unfolding takeBy
     take-beyond above far = simp (ne-eqb x 0 (omega arith), lt-leb _ _ above, lt-ltb _ _ far)
 
     pub take-hub : 256 < x → x - 256 ≤ 32
-        → takeBy P high g q (plan.portOf x) s ≡ record { look = Pass (x - 256); cells = downBy P high g q (x - 256) s }
+        → takeBy high g q (plan.portOf x) s ≡ record { look = Pass (x - 256); cells = downBy high g q (x - 256) s }
     unfolding takeBy
     take-hub above near = simp (ne-eqb x 0 (omega arith), lt-leb _ _ above, le-ltb _ _ near)
 
 -- a hub h above, in whose port q the hub that hands up stands
-module _ (P : List ℕ) (high : Bool) (h q : ℕ) (s : List ℕ) where
-  pub up-none : h < 1 → upBy P high h q s ≡ record { look = Stop; cells = s }
+module _ (high : Bool) (h q : ℕ) (s : List ℕ) where
+  pub up-none : h < 1 → upBy high h q s ≡ record { look = Stop; cells = s }
   unfolding upBy
   up-none none = simp (lt-ltb _ _ none)
 
-  pub up-beyond : 1 ≤ h → 32 < h → upBy P high h q s ≡ record { look = Stop; cells = s }
+  pub up-beyond : 1 ≤ h → 32 < h → upBy high h q s ≡ record { look = Stop; cells = s }
   unfolding upBy
   up-beyond some far = simp (le-ltb _ _ some, lt-ltb _ _ far)
 
-  pub up-no-port : 1 ≤ h → h ≤ 32 → 32 < q → upBy P high h q s ≡ record { look = Stop; cells = s }
+  pub up-no-port : 1 ≤ h → h ≤ 32 → 32 < q → upBy high h q s ≡ record { look = Stop; cells = s }
   unfolding upBy
   up-no-port some near far = simp (le-ltb _ _ some, le-ltb _ _ near, lt-ltb _ _ far)
 
   pub up-passes : 1 ≤ h → h ≤ 32 → q ≤ 32
-      → upBy P high h q s ≡ record { look = Pass h; cells = set s (pointerCell high h) ((q + 1) * 2) }
+      → upBy high h q s ≡ record { look = Pass h; cells = set s (pointerCell high h) ((q + 1) * 2) }
   unfolding upBy
   up-passes some near port = simp (le-ltb h 1 some, le-ltb 32 h near, le-ltb 32 q port)
 
@@ -92,7 +92,7 @@ module _ (P : List ℕ) (high : Bool) (g : ℕ) (s : List ℕ) where
   unfolding handUpBy
   root-round e = simp (eq-eqb _ _ e)
 
-  pub handed-up : (g ≡ 1 → ⊥) → handUpBy P high g s ≡ upBy P high (getD P (plan.hubCell g 1) 0) (getD P (plan.hubCell g 2) 0) s
+  pub handed-up : (g ≡ 1 → ⊥) → handUpBy P high g s ≡ upBy high (getD P (plan.hubCell g 1) 0) (getD P (plan.hubCell g 2) 0) s
   unfolding handUpBy
   handed-up lower = simp (ne-eqb _ _ lower)
 
@@ -105,7 +105,7 @@ module _ (P : List ℕ) (high : Bool) (g : ℕ) (s : List ℕ) where
     two-further = omega arith
 
     pub look-takes : (q : ℕ) → sought ≡ found.Port q
-        → lookBy P high g s ≡ takeBy P high g q (plan.portOf (getD P (plan.portCell g q) 0)) s
+        → lookBy P high g s ≡ takeBy high g q (plan.portOf (getD P (plan.portCell g q) 0)) s
     unfolding lookBy foundBy
     look-takes q f = let h = rw (two-further, e) at f in rw h
 

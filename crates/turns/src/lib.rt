@@ -6,8 +6,7 @@ use state::Cascade;
 use state::Look;
 use state::Turn;
 ghost use mathlib.Core.Path.{_≡_};
-ghost use mathlib.Core.List.{List};
-ghost use Prim.Native.Nat.{ℕ, _+_, _-_, _≤_, _<_};
+ghost use Prim.Native.Nat.{_+_, _-_, _≤_, _<_};
 ghost use lib.ListN.{getD, set};
 ghost use Rattle.plan.specs.Tables.{portOf, portCell};
 ghost use Rattle.state.specs.Layout.{maskCell, pointerCell};
@@ -45,7 +44,7 @@ fn go_down(s: &mut Cascade, high: bool, g: u32, q: u32, h: u32)
     requires { ⌜ (1 ≤ g) × (g ≤ 32) ⌝ }
     requires { ⌜ (1 ≤ q) × (q ≤ 32) ⌝ }
     requires { ⌜ (1 ≤ h) × (h ≤ 32) ⌝ }
-    ensures { λ _. ⌜ ((P : List ℕ) → now (s .exit) ≡ downBy P high g q h (now (s .entry))) ⌝ }
+    ensures { λ _. ⌜ now (s .exit) ≡ downBy high g q h (now (s .entry)) ⌝ }
 {
     let at = pointer_cell(high, g);
     let before = s[at];
@@ -61,8 +60,8 @@ fn go_down(s: &mut Cascade, high: bool, g: u32, q: u32, h: u32)
 fn take(p: &Plan, s: &mut Cascade, high: bool, g: u32, q: u32) -> Look
     requires { ⌜ (1 ≤ g) × (g ≤ 32) ⌝ }
     requires { ⌜ (1 ≤ q) × (q ≤ 32) ⌝ }
-    ensures { λ r. ⌜ r ≡ takeBy (now (p .entry)) high g q (portOf (getD (now (p .entry)) (portCell g q) 0)) (now (s .entry)) .look ⌝ }
-    ensures { λ r. ⌜ now (s .exit) ≡ takeBy (now (p .entry)) high g q (portOf (getD (now (p .entry)) (portCell g q) 0)) (now (s .entry)) .cells ⌝ }
+    ensures { λ r. ⌜ r ≡ takeBy high g q (portOf (getD (now (p .entry)) (portCell g q) 0)) (now (s .entry)) .look ⌝ }
+    ensures { λ r. ⌜ now (s .exit) ≡ takeBy high g q (portOf (getD (now (p .entry)) (portCell g q) 0)) (now (s .entry)) .cells ⌝ }
 {
     let x = p[8 + (g as usize - 1) * 36 + (3 + q as usize)];
     if x == 0 {
@@ -82,8 +81,8 @@ fn take(p: &Plan, s: &mut Cascade, high: bool, g: u32, q: u32) -> Look
 
 // Rule 4 at a lower hub that stands at port q of hub h.
 fn go_up(s: &mut Cascade, high: bool, h: u32, q: u32) -> Look
-    ensures { λ r. ⌜ ((P : List ℕ) → r ≡ upBy P high h q (now (s .entry)) .look) ⌝ }
-    ensures { λ r. ⌜ ((P : List ℕ) → now (s .exit) ≡ upBy P high h q (now (s .entry)) .cells) ⌝ }
+    ensures { λ r. ⌜ r ≡ upBy high h q (now (s .entry)) .look ⌝ }
+    ensures { λ r. ⌜ now (s .exit) ≡ upBy high h q (now (s .entry)) .cells ⌝ }
 {
     if h < 1 {
         return Look::Stop;

@@ -28,20 +28,20 @@ element-write-s : tie.Need-element-write-s
 element-write-s c = search needs
 
 returns : tie.Need-returns
-returns c P =
+returns c =
     let w = c .before .before in
     let a = w .before .args in
-    down-resumed P (a .high) (a .g) (a .q) (a .s .now) (a .h) (w .pointer-cell .result) (w .pointer-cell .ensures .0) (omega arith)
+    down-resumed (a .high) (a .g) (a .q) (a .s .now) (a .h) (w .pointer-cell .result) (w .pointer-cell .ensures .0) (omega arith)
 
 point-requires : tie.Need-point-requires
 point-requires c κs = search needs
 
 returns-2 : tie.Need-returns-2
-returns-2 c P =
+returns-2 c =
     let w = c .before .before .before .before in
     let a = w .before .args in
     c .point .ensures
-    ∙ down-afresh P (a .high) (a .g) (a .q) (a .s .now) (a .h) (w .pointer-cell .result) (w .pointer-cell .ensures .0) (λ same. omega arith)
+    ∙ down-afresh (a .high) (a .g) (a .q) (a .s .now) (a .h) (w .pointer-cell .result) (w .pointer-cell .ensures .0) (λ same. omega arith)
 
 pub go-down-spec : {M : Type 1} → statement M
 go-down-spec =

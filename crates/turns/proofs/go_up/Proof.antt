@@ -12,22 +12,22 @@ use Rattle.turns.proofs.go_up.Tie as tie
 returns : tie.Need-returns
 returns c =
     let a = c .before .args in (
-      λ P. looked (up-none P (a .high) (a .h) (a .q) (a .s .now) (omega arith)) .0,
-      λ P. looked (up-none P (a .high) (a .h) (a .q) (a .s .now) (omega arith)) .1,
+      looked (up-none (a .high) (a .h) (a .q) (a .s .now) (omega arith)) .0,
+      looked (up-none (a .high) (a .h) (a .q) (a .s .now) (omega arith)) .1,
     )
 
 returns-2 : tie.Need-returns-2
 returns-2 c =
     let a = c .before .before .args in (
-      λ P. looked (up-beyond P (a .high) (a .h) (a .q) (a .s .now) (omega arith) (omega arith)) .0,
-      λ P. looked (up-beyond P (a .high) (a .h) (a .q) (a .s .now) (omega arith) (omega arith)) .1,
+      looked (up-beyond (a .high) (a .h) (a .q) (a .s .now) (omega arith) (omega arith)) .0,
+      looked (up-beyond (a .high) (a .h) (a .q) (a .s .now) (omega arith) (omega arith)) .1,
     )
 
 returns-3 : tie.Need-returns-3
 returns-3 c =
     let a = c .before .before .before .args in (
-      λ P. looked (up-no-port P (a .high) (a .h) (a .q) (a .s .now) (omega arith) (omega arith) (omega arith)) .0,
-      λ P. looked (up-no-port P (a .high) (a .h) (a .q) (a .s .now) (omega arith) (omega arith) (omega arith)) .1,
+      looked (up-no-port (a .high) (a .h) (a .q) (a .s .now) (omega arith) (omega arith) (omega arith)) .0,
+      looked (up-no-port (a .high) (a .h) (a .q) (a .s .now) (omega arith) (omega arith) (omega arith)) .1,
     )
 
 add-point : tie.Need-add-point
@@ -42,8 +42,8 @@ point-requires c κs = search needs
 returns-4 : tie.Need-returns-4
 returns-4 c =
     let a = c .before .before .before .before .before .args in (
-      λ P. looked (up-passes P (a .high) (a .h) (a .q) (a .s .now) (omega arith) (omega arith) (omega arith)) .0,
-      λ P. c .point .ensures ∙ ap (λ (n : ℕ). set (a .s .now) (pointerCell (a .high) (a .h)) n) (omega arith) ∙ looked (up-passes P (a .high) (a .h) (a .q) (a .s .now) (omega arith) (omega arith) (omega arith)) .1,
+      looked (up-passes (a .high) (a .h) (a .q) (a .s .now) (omega arith) (omega arith) (omega arith)) .0,
+      c .point .ensures ∙ ap (λ (n : ℕ). set (a .s .now) (pointerCell (a .high) (a .h)) n) (omega arith) ∙ looked (up-passes (a .high) (a .h) (a .q) (a .s .now) (omega arith) (omega arith) (omega arith)) .1,
     )
 
 pub go-up-spec : {M : Type 1} → statement M

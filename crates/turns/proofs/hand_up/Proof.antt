@@ -50,8 +50,8 @@ returns-2 : tie.Need-returns-2
 returns-2 c =
     let a = c .before .before .before .before .before .args in
     let e = handed-up (a .p .now) (a .high) (a .g) (a .s .now) (c .before .before .before .before .if1 .left) in (
-      c .go-up .ensures .0 (a .p .now) ∙ sym (ap (λ (w : Looked). w .look) e),
-      c .go-up .ensures .1 (a .p .now) ∙ sym (ap (λ (w : Looked). w .cells) e),
+      c .go-up .ensures .0 ∙ sym (ap (λ (w : Looked). w .look) e),
+      c .go-up .ensures .1 ∙ sym (ap (λ (w : Looked). w .cells) e),
     )
 
 pub hand-up-spec : {M : Type 1} → statement M

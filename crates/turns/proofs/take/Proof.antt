@@ -34,7 +34,7 @@ element-copy-out-x c = search needs
 returns : tie.Need-returns
 returns c =
     let a = c .before .before .args in
-    let e = looked (take-empty (a .p .now) (a .high) (a .g) (a .q) (a .s .now) (getD (a .p .now) (portCell (a .g) (a .q)) 0) (c .if1 .taken)) in
+    let e = looked (take-empty (a .high) (a .g) (a .q) (a .s .now) (getD (a .p .now) (portCell (a .g) (a .q)) 0) (c .if1 .taken)) in
     e
 
 add-point : tie.Need-add-point
@@ -49,7 +49,7 @@ point-requires c κs = search needs
 returns-2 : tie.Need-returns-2
 returns-2 c =
     let a = c .before .before .before .before .before .args in
-    let e = looked (take-node (a .p .now) (a .high) (a .g) (a .q) (a .s .now) (getD (a .p .now) (portCell (a .g) (a .q)) 0) (c .before .before .before .if1 .left) (c .before .before .if2 .taken)) in
+    let e = looked (take-node (a .high) (a .g) (a .q) (a .s .now) (getD (a .p .now) (portCell (a .g) (a .q)) 0) (c .before .before .before .if1 .left) (c .before .before .if2 .taken)) in
     (e .0, c .point .ensures ∙ ap (λ (n : ℕ). set (a .s .now) (pointerCell (a .high) (a .g)) n) (omega arith) ∙ e .1)
 
 sub-h : tie.Need-sub-h
@@ -58,7 +58,7 @@ sub-h c = search needs
 returns-3 : tie.Need-returns-3
 returns-3 c =
     let a = c .before .before .before .before .args in
-    let e = looked (take-beyond (a .p .now) (a .high) (a .g) (a .q) (a .s .now) (getD (a .p .now) (portCell (a .g) (a .q)) 0) (c .before .if2 .left) (c .if3 .taken)) in
+    let e = looked (take-beyond (a .high) (a .g) (a .q) (a .s .now) (getD (a .p .now) (portCell (a .g) (a .q)) 0) (c .before .if2 .left) (c .if3 .taken)) in
     e
 
 go-down-requires : tie.Need-go-down-requires
@@ -67,8 +67,8 @@ go-down-requires c κs = search needs
 returns-4 : tie.Need-returns-4
 returns-4 c =
     let a = c .before .before .before .before .before .before .args in
-    let e = looked (take-hub (a .p .now) (a .high) (a .g) (a .q) (a .s .now) (getD (a .p .now) (portCell (a .g) (a .q)) 0) (c .before .before .before .if2 .left) (c .before .before .if3 .left)) in
-    (e .0, c .go-down .ensures (a .p .now) ∙ e .1)
+    let e = looked (take-hub (a .high) (a .g) (a .q) (a .s .now) (getD (a .p .now) (portCell (a .g) (a .q)) 0) (c .before .before .before .if2 .left) (c .before .before .if3 .left)) in
+    (e .0, c .go-down .ensures ∙ e .1)
 
 pub take-spec : {M : Type 1} → statement M
 take-spec =
