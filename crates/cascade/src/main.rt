@@ -1,17 +1,32 @@
-// Reads a plan on standard input, at most 65,536 bytes, and writes the log's first line to standard output.
+// Reads a text on standard input, at most 65,536 bytes, and writes its log to standard output.
 use libc::STDIN_FILENO;
 use libc::STDOUT_FILENO;
+use plan::Plan;
+use state::Cascade;
 use writer::Put;
 
+// The log of a text, through what is lent.
+fn write_log(text: &[u8], plan: &mut Plan, s: &mut Cascade, out: &mut [u8]) {
+    match session::run(text, plan, s, out) {
+        Put::Behind(end) => {
+            io::write_all(STDOUT_FILENO, &out[..end]);
+        }
+        Put::Short => {}
+    }
+}
+
+// The same with a buffer for the longest log. The array's length is its type's here, so that no proof counts the zeros in `main`.
+fn write_whole(text: &[u8], plan: &mut Plan, s: &mut Cascade, out: &mut [u8; 1179648]) {
+    write_log(text, plan, s, out);
+}
+
+// 18 times 65,536 bytes have room for every log: a line of one byte is refused by one of 18, `(refused 65482 1)` and LF. A refusal by two digits has 19, and
+// its event 10 at least. A request has 15 at least, and makes one grant and one rest, of 84 and 49 at most, counting 20 digits a time and a number of moves.
 fn main() {
     let mut text = io::large_buffer();
     let n = io::read_full(STDIN_FILENO, &mut text);
     let mut plan = [0u32; 1672];
-    let mut line = [0u8; 128];
-    match log::plan_line(&text[..n], &mut plan, &mut line, 0) {
-        Put::Behind(end) => {
-            io::write_all(STDOUT_FILENO, &line[..end]);
-        }
-        Put::Short => {}
-    }
+    let mut cascade = [0u32; 1160];
+    let mut out = [0u8; 1179648];
+    write_whole(&text[..n], &mut plan, &mut cascade, &mut out);
 }

@@ -1,0 +1,6 @@
+-- What a list of calls does and promises.
+pub mod Numbers
+pub mod Tables
+pub mod Listing
+pub mod Loops
+pub mod Making

@@ -1,0 +1,57 @@
+-- `ask` meets its contract: the clock comes to t, and the request stands.
+use native.Mathlib.Omega.{arith}
+use Rattle.rules.specs.Call.{ask}
+use Rattle.state.specs.Layout.{classOf}
+use Rattle.state.specs.Calls.{changeBy}
+use Rattle.hub.proofs.CallLaws.{event-refused, event-taken, ask-asked}
+use borrow.Author.Needs.{needs}
+use Rattle.hub.proofs.ask.Statement.{statement}
+use Rattle.hub.proofs.ask.Tie as tie
+
+ask-row-requires : tie.Need-ask-row-requires
+ask-row-requires c κs = search needs
+
+returns : tie.Need-returns
+returns c =
+    let a = c .before .before .before .args in
+    event-refused (a .p .now) (a .s .now) (ask (classOf (a .high)) (a .t) (a .k) (a .b)) (c .before .ask-row .ensures) (c .if1 .taken)
+
+advance-requires : tie.Need-advance-requires
+advance-requires c κs = search needs
+
+cast-put-request : tie.Need-cast-put-request
+cast-put-request c =
+    let a = c .before .before .before .before .before .before .args in
+    let w =
+    ask-asked (a .p .now) (a .s .now) (classOf (a .high)) (a .t) (a .k) (a .b) (c .before .before .before .before .ask-row .ensures)
+    (c .before .before .before .if1 .left) in
+    omega arith
+
+request-code-requires : tie.Need-request-code-requires
+request-code-requires c κs =
+    let a = c .before .before .before .before .before .before .args in
+    ask-asked (a .p .now) (a .s .now) (classOf (a .high)) (a .t) (a .k) (a .b) (c .before .before .before .before .ask-row .ensures)
+    (c .before .before .before .if1 .left) .bits
+
+put-request-requires : tie.Need-put-request-requires
+put-request-requires c κs = search needs
+
+returns-2 : tie.Need-returns-2
+unfolding changeBy
+returns-2 c =
+    let a = c .before .before .before .before .before .before .before .before .args in
+    event-taken (a .p .now) (a .s .now) (ask (classOf (a .high)) (a .t) (a .k) (a .b)) (c .before .before .before .before .before .before .ask-row .ensures)
+    (c .before .before .before .before .before .if1 .left)
+    (rw (c .before .request-code .ensures, c .before .before .before .advance .ensures) at (c .put-request .ensures))
+
+pub ask-spec : {M : Type 1} → statement M
+ask-spec =
+    tie.close
+    (tie.spec
+    ask-row-requires
+    returns
+    advance-requires
+    cast-put-request
+    request-code-requires
+    put-request-requires
+    returns-2)

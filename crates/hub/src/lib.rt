@@ -1,0 +1,110 @@
+// The cascade hub: the five events and the step.
+// No public function has a `requires`: each says its answer and the whole table that it leaves, for every content of both tables, by a definition of `state`.
+use plan::Plan;
+use state::Cascade;
+use state::Step;
+ghost use mathlib.Core.Path.{_≡_};
+ghost use Prim.Native.Nat.{_≤_, _<_};
+ghost use lib.ListN.{set};
+ghost use Rattle.rules.specs.Call.{ask, off, reserve, until, normal, high};
+ghost use Rattle.rules.specs.Core.{standing};
+ghost use Rattle.state.specs.Layout.{classOf, latestCell, requestCode};
+ghost use Rattle.state.specs.Calls.{EventPromise, StepPromise};
+
+mod instants;
+mod rows;
+mod turn;
+
+// The cell of a request.
+fn request_code(high: bool, b: u64) -> u32
+    requires { ⌜ b < 65536 ⌝ }
+    ensures { λ r. ⌜ r ≡ requestCode (standing (classOf high) b) ⌝ }
+{
+    if high {
+        return 131072 + b as u32;
+    }
+    65536 + b as u32
+}
+
+// A request of either class: 0, or the number of the row that refuses it.
+fn ask(p: &Plan, s: &mut Cascade, high: bool, t: u64, k: u64, b: u64) -> u32
+    ensures { λ r. ⌜ EventPromise (now (p .entry)) (ask (classOf high) t k b) (now (s .entry)) r (now (s .exit)) ⌝ }
+{
+    let row = rows::ask_row(p, s, high, t, k, b);
+    if row != 0 {
+        return row;
+    }
+    frames::advance(p, s, t);
+    table::put_request(p, s, k as u32, request_code(high, b));
+    0
+}
+
+// (normal t k b): 0, or the number of the row that refuses it, and then no cell changes. So are the others.
+pub fn normal(p: &Plan, s: &mut Cascade, t: u64, k: u64, b: u64) -> u32
+    ensures { λ r. ⌜ EventPromise (now (p .entry)) (ask normal t k b) (now (s .entry)) r (now (s .exit)) ⌝ }
+{
+    ask(p, s, false, t, k, b)
+}
+
+// (high t k b)
+pub fn high(p: &Plan, s: &mut Cascade, t: u64, k: u64, b: u64) -> u32
+    ensures { λ r. ⌜ EventPromise (now (p .entry)) (ask high t k b) (now (s .entry)) r (now (s .exit)) ⌝ }
+{
+    ask(p, s, true, t, k, b)
+}
+
+// (off t k)
+pub fn off(p: &Plan, s: &mut Cascade, t: u64, k: u64) -> u32
+    ensures { λ r. ⌜ EventPromise (now (p .entry)) (off t k) (now (s .entry)) r (now (s .exit)) ⌝ }
+{
+    let row = rows::node_row(p, s, t, k);
+    if row != 0 {
+        return row;
+    }
+    frames::advance(p, s, t);
+    table::put_request(p, s, k as u32, 0);
+    0
+}
+
+// Node k's latest accepted reservation becomes a cell.
+fn put_latest(s: &mut Cascade, k: u32, share: u32)
+    requires { ⌜ (1 ≤ k) × (k ≤ 256) ⌝ }
+    ensures { λ _. ⌜ now (s .exit) ≡ set (now (s .entry)) (latestCell k) share ⌝ }
+{
+    s[136 + (k as usize - 1) * 4 + 2] = share;
+}
+
+// (reserve t k n b)
+pub fn reserve(p: &Plan, s: &mut Cascade, t: u64, k: u64, n: u64, b: u64) -> u32
+    ensures { λ r. ⌜ EventPromise (now (p .entry)) (reserve t k n b) (now (s .entry)) r (now (s .exit)) ⌝ }
+{
+    let row = rows::reserve_row(p, s, t, k, n, b);
+    if row != 0 {
+        return row;
+    }
+    frames::advance(p, s, t);
+    put_latest(s, k as u32, rows::share_code(n, b));
+    0
+}
+
+// (until t)
+pub fn until(p: &Plan, s: &mut Cascade, t: u64) -> u32
+    ensures { λ r. ⌜ EventPromise (now (p .entry)) (until t) (now (s .entry)) r (now (s .exit)) ⌝ }
+{
+    let row = rows::time_row(p, s, t);
+    if row != 0 {
+        return row;
+    }
+    frames::advance(p, s, t);
+    0
+}
+
+// A step with bound t.
+pub fn step(p: &Plan, s: &mut Cascade, t: u64) -> Step
+    ensures { λ r. ⌜ StepPromise (now (p .entry)) t (now (s .entry)) r (now (s .exit)) ⌝ }
+{
+    if rows::out_of_time(s, t) {
+        return Step::Refused(11);
+    }
+    turn::step_due(p, s, instants::due(p, s), t)
+}

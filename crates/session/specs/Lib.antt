@@ -1,0 +1,2 @@
+-- What the session's own functions cite besides `logbook`.
+pub mod Times

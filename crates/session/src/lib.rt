@@ -1,0 +1,251 @@
+// The run over one text: the plan is read, then each event behind all steps strictly before it, and the log is written into a lent buffer.
+// `run` has no `requires`: what it writes is one definition of the whole log of a text, `logbook`'s specs/Log.antt.
+use events::Event;
+use plan::Answer;
+use plan::Plan;
+use state::Cascade;
+use state::Step;
+use text::Cursor;
+use text::Next;
+use writer::Put;
+ghost use mathlib.Core.Path.{_≡_};
+ghost use Prim.Native.Nat.{suc, _+_, _*_};
+ghost use lib.Dec.{eqb};
+ghost use Rattle.rules.specs.Choice.{if_then_else_};
+ghost use lib.ListN.{length};
+ghost use Rattle.plan.specs.Reading.{reading, leaves};
+ghost use Rattle.events.specs.Event.{callOf};
+ghost use Rattle.log.specs.Handed.{handed};
+ghost use Rattle.logbook.specs.Cells.{more, stepsBy, numberBy, cellsBy, budgetBy, beforeBy, callBy, eventLineBy, eventsBy, behindPlan, runBy, putLines};
+ghost use Rattle.session.specs.Times.{timeOf};
+ghost use Rattle.logbook.specs.Log.{logOf};
+
+// Whether more steps may follow a step's answer.
+fn goes_on(a: Step) -> bool
+    ensures { λ r. ⌜ r ≡ more a ⌝ }
+{
+    match a {
+        Step::Grant {
+            time: _,
+            node: _,
+            class: _,
+            end: _,
+            moves: _,
+        } => true,
+        Step::Rest { time: _, moves: _ } => true,
+        Step::Quiet => false,
+        Step::Refused(_) => false,
+    }
+}
+
+// At most `left` steps with bound t, each with its line.
+fn steps(p: &Plan, s: &mut Cascade, left: u64, t: u64, buffer: &mut [u8], at: usize) -> Put
+    ensures { λ r. ⌜ r ≡ stepsBy (now (p .entry)) left t (now (s .entry)) (now (buffer .entry)) at .put ⌝ }
+    ensures { λ r. ⌜ now (s .exit) ≡ stepsBy (now (p .entry)) left t (now (s .entry)) (now (buffer .entry)) at .cells ⌝ }
+    ensures { λ r. ⌜ now (buffer .exit) ≡ stepsBy (now (p .entry)) left t (now (s .entry)) (now (buffer .entry)) at .buffer ⌝ }
+{
+    if left == 0 {
+        return Put::Behind(at);
+    }
+    let a = hub::step(p, s, t);
+    if !goes_on(a) {
+        return Put::Behind(at);
+    }
+    match lines::step_line(a, buffer, at) {
+        Put::Behind(z) => steps(p, s, left - 1, t, buffer, z),
+        Put::Short => Put::Short,
+    }
+}
+
+// The event: its number, 1 where the line is none.
+fn make(p: &Plan, s: &mut Cascade, e: Event) -> u32
+    ensures { λ r. ⌜ r ≡ numberBy (now (p .entry)) (callOf e) (now (s .entry)) ⌝ }
+    ensures { λ r. ⌜ now (s .exit) ≡ cellsBy (now (p .entry)) (callOf e) (now (s .entry)) ⌝ }
+{
+    match e {
+        Event::Normal { t, k, b } => hub::normal(p, s, t, k, b),
+        Event::High { t, k, b } => hub::high(p, s, t, k, b),
+        Event::Off { t, k } => hub::off(p, s, t, k),
+        Event::Reserve { t, k, n, b } => hub::reserve(p, s, t, k, n, b),
+        Event::Until { t } => hub::until(p, s, t),
+        Event::NoEvent => 1,
+    }
+}
+
+// Twice a number of requests, and one more while a line is busy.
+fn twice(busy: u32, standing: u32) -> u64
+    ensures { λ r. ⌜ r ≡ 2 * standing + (if eqb busy 0 then 0 else 1) ⌝ }
+{
+    if busy == 0 {
+        return 2 * standing as u64;
+    }
+    2 * standing as u64 + 1
+}
+
+// How many steps can come before the next event.
+fn budget(s: &Cascade) -> u64
+    ensures { λ r. ⌜ r ≡ budgetBy (now (s .entry)) ⌝ }
+{
+    twice(s[4], s[7])
+}
+
+// An event's time; a line that is none has 0.
+fn time_of(e: Event) -> u64
+    ensures { λ r. ⌜ r ≡ timeOf (callOf e) ⌝ }
+{
+    match e {
+        Event::Normal { t, k: _, b: _ } => t,
+        Event::High { t, k: _, b: _ } => t,
+        Event::Off { t, k: _ } => t,
+        Event::Reserve {
+            t,
+            k: _,
+            n: _,
+            b: _,
+        } => t,
+        Event::Until { t } => t,
+        Event::NoEvent => 0,
+    }
+}
+
+// All steps before an event.
+fn before(p: &Plan, s: &mut Cascade, e: Event, buffer: &mut [u8], at: usize) -> Put
+    ensures { λ r. ⌜ r ≡ beforeBy (now (p .entry)) (callOf e) (now (s .entry)) (now (buffer .entry)) at .put ⌝ }
+    ensures { λ r. ⌜ now (s .exit) ≡ beforeBy (now (p .entry)) (callOf e) (now (s .entry)) (now (buffer .entry)) at .cells ⌝ }
+    ensures { λ r. ⌜ now (buffer .exit) ≡ beforeBy (now (p .entry)) (callOf e) (now (s .entry)) (now (buffer .entry)) at .buffer ⌝ }
+{
+    if let Event::NoEvent = e {
+        return Put::Behind(at);
+    }
+    let left = budget(s);
+    steps(p, s, left, time_of(e), buffer, at)
+}
+
+// The event, with its line where it is refused.
+fn call(p: &Plan, s: &mut Cascade, number: usize, e: Event, buffer: &mut [u8], at: usize) -> Put
+    ensures { λ r. ⌜ r ≡ callBy (now (p .entry)) number (callOf e) (now (s .entry)) (now (buffer .entry)) at .put ⌝ }
+    ensures { λ r. ⌜ now (s .exit) ≡ callBy (now (p .entry)) number (callOf e) (now (s .entry)) (now (buffer .entry)) at .cells ⌝ }
+    ensures { λ r. ⌜ now (buffer .exit) ≡ callBy (now (p .entry)) number (callOf e) (now (s .entry)) (now (buffer .entry)) at .buffer ⌝ }
+{
+    let row = make(p, s, e);
+    if row == 0 {
+        return Put::Behind(at);
+    }
+    lines::refused_line(number as u64, row, buffer, at)
+}
+
+// One event line.
+fn event_line(
+    p: &Plan,
+    s: &mut Cascade,
+    number: usize,
+    e: Event,
+    buffer: &mut [u8],
+    at: usize,
+) -> Put
+    ensures { λ r. ⌜ r ≡ eventLineBy (now (p .entry)) number (callOf e) (now (s .entry)) (now (buffer .entry)) at .put ⌝ }
+    ensures { λ r. ⌜ now (s .exit) ≡ eventLineBy (now (p .entry)) number (callOf e) (now (s .entry)) (now (buffer .entry)) at .cells ⌝ }
+    ensures { λ r. ⌜ now (buffer .exit) ≡ eventLineBy (now (p .entry)) number (callOf e) (now (s .entry)) (now (buffer .entry)) at .buffer ⌝ }
+{
+    match before(p, s, e, buffer, at) {
+        Put::Behind(z) => call(p, s, number, e, buffer, z),
+        Put::Short => Put::Short,
+    }
+}
+
+// The event lines from a cursor on. `left` is more than there are lines, so the loop ends at the text's end.
+fn events(text: &[u8], p: &Plan, s: &mut Cascade, c: Cursor, buffer: &mut [u8], at: usize) -> Put
+    ensures { λ r. ⌜ r ≡ eventsBy (now (p .entry)) (now (text .entry)) (suc (length (now (text .entry)))) c (now (s .entry)) (now (buffer .entry)) at .put ⌝ }
+    ensures { λ r. ⌜ now (s .exit) ≡ eventsBy (now (p .entry)) (now (text .entry)) (suc (length (now (text .entry)))) c (now (s .entry)) (now (buffer .entry)) at .cells ⌝ }
+    ensures { λ r. ⌜ now (buffer .exit) ≡ eventsBy (now (p .entry)) (now (text .entry)) (suc (length (now (text .entry)))) c (now (s .entry)) (now (buffer .entry)) at .buffer ⌝ }
+{
+    let mut left = text.len() + 1;
+    let mut place = c.at;
+    let mut line = c.number;
+    let mut z = at;
+    while 0 < left {
+        let here = Cursor {
+            at: place,
+            number: line,
+        };
+        match text::next_line(text, here) {
+            Next::Line {
+                start,
+                end,
+                number,
+                next,
+            } => {
+                let e = events::event_at(text, start, end);
+                match event_line(p, s, number, e, buffer, z) {
+                    Put::Behind(y) => {
+                        z = y;
+                    }
+                    Put::Short => {
+                        return Put::Short;
+                    }
+                }
+                place = next.at;
+                line = next.number;
+            }
+            Next::Unended {
+                start: _,
+                end: _,
+                number,
+            } => {
+                return lines::refused_line(number as u64, 1, buffer, z);
+            }
+            Next::Done { number: _ } => {
+                return Put::Behind(z);
+            }
+        }
+        left -= 1;
+    }
+    Put::Behind(z)
+}
+
+// What follows the plan's own line: nothing behind a refused plan, and behind a taken one its events, from a fresh table.
+fn behind_plan(
+    text: &[u8],
+    answer: Answer,
+    p: &Plan,
+    s: &mut Cascade,
+    buffer: &mut [u8],
+    at: usize,
+) -> Put
+    ensures { λ r. ⌜ r ≡ behindPlan (now (text .entry)) answer (now (p .entry)) (now (s .entry)) (now (buffer .entry)) at .put ⌝ }
+    ensures { λ r. ⌜ now (s .exit) ≡ behindPlan (now (text .entry)) answer (now (p .entry)) (now (s .entry)) (now (buffer .entry)) at .cells ⌝ }
+    ensures { λ r. ⌜ now (buffer .exit) ≡ behindPlan (now (text .entry)) answer (now (p .entry)) (now (s .entry)) (now (buffer .entry)) at .buffer ⌝ }
+{
+    match answer {
+        Answer::Taken {
+            nodes: _,
+            hubs: _,
+            at: place,
+            line,
+        } => {
+            table::fresh(s);
+            let c = Cursor {
+                at: place,
+                number: line,
+            };
+            events(text, p, s, c, buffer, at)
+        }
+        Answer::Refused { line: _, number: _ } => Put::Behind(at),
+    }
+}
+
+// The whole log of a text into a lent buffer: the place behind it, or Short at the first line that doesn't fit. A taken plan's tables stand in `plan`, and
+// the cascade's in `s`; a refused plan leaves both as they were.
+pub fn run(text: &[u8], plan: &mut Plan, s: &mut Cascade, buffer: &mut [u8]) -> Put
+    ensures { λ r. ⌜ r ≡ putLines (logOf (now (text .entry))) (now (buffer .entry)) 0 .put ⌝ }
+    ensures { λ r. ⌜ now (buffer .exit) ≡ putLines (logOf (now (text .entry))) (now (buffer .entry)) 0 .buffer ⌝ }
+    ensures { λ r. ⌜ now (plan .exit) ≡ leaves (reading (handed (now (text .entry)))) (now (plan .entry)) ⌝ }
+    ensures { λ r. ⌜ now (s .exit) ≡ runBy (now (text .entry)) (now (s .entry)) (now (buffer .entry)) .cells ⌝ }
+{
+    let text = log::handed(text);
+    let answer = plan::read(text, plan);
+    match log::first_line(answer, buffer, 0) {
+        Put::Behind(z) => behind_plan(text, answer, plan, s, buffer, z),
+        Put::Short => Put::Short,
+    }
+}
