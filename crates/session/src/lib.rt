@@ -177,12 +177,8 @@ fn events(text: &[u8], p: &Plan, s: &mut Cascade, c: Cursor, buffer: &mut [u8], 
             } => {
                 let e = events::event_at(text, start, end);
                 match event_line(p, s, number, e, buffer, z) {
-                    Put::Behind(y) => {
-                        z = y;
-                    }
-                    Put::Short => {
-                        return Put::Short;
-                    }
+                    Put::Behind(y) => z = y,
+                    Put::Short => return Put::Short,
                 }
                 place = next.at;
                 line = next.number;
@@ -191,12 +187,8 @@ fn events(text: &[u8], p: &Plan, s: &mut Cascade, c: Cursor, buffer: &mut [u8], 
                 start: _,
                 end: _,
                 number,
-            } => {
-                return lines::refused_line(number as u64, 1, buffer, z);
-            }
-            Next::Done { number: _ } => {
-                return Put::Behind(z);
-            }
+            } => return lines::refused_line(number as u64, 1, buffer, z),
+            Next::Done { number: _ } => return Put::Behind(z),
         }
         left -= 1;
     }
