@@ -1,0 +1,61 @@
+-- What the exports tell of an answer, by the case that the callee's answer is.
+use Prim.Native.Nat.{ℕ}
+use mathlib.Core.Path.{_≡_, sym, ap, _∙_}
+use mathlib.Core.List.{List}
+use native.Mathlib.Omega.{arith}
+use lib.ListN.{set}
+use Rattle.plan.specs.declared.Answer.{Answer}
+use Rattle.plan.specs.declared.Answer.the-variants.{Taken, Refused}
+use Rattle.writer.specs.declared.Put.{Put}
+use Rattle.writer.specs.declared.Put.the-variants.{Behind, Short}
+use Rattle.writer.specs.Write.{putNumber}
+use Rattle.state.specs.declared.Step.{Step}
+use Rattle.state.specs.Calls.{stepBy, stepAnswer, performBy}
+use Rattle.calls.specs.Table.{Six, sixOf, putSix}
+use Rattle.calls.proofs.Numbers.{stepSix, step-six}
+use Rattle.lembuya.specs.Exports.{readNumber, putTold, putEnd}
+
+-- ---- a plan
+
+abbrev Told : List ℕ → Answer → ℕ → List ℕ → Type 0
+Told told x r z = (r ≡ readNumber x) × (z ≡ putTold x told)
+
+pub taken-told : (told : List ℕ) (nodes hubs at line : ℕ) {x : Answer} {z : List ℕ} → Taken nodes hubs at line ≡ x
+    → z ≡ set (set (set (set told 0 nodes) 1 hubs) 2 at) 3 line → Told told x 0 z
+unfolding readNumber putTold
+taken-told told nodes hubs at line e stored = (ap readNumber e, stored ∙ ap (λ (y : Answer). putTold y told) e)
+
+pub refused-told : (told : List ℕ) (line number : ℕ) {x : Answer} {z : List ℕ} → Refused line number ≡ x
+    → z ≡ set (set (set (set told 0 0) 1 0) 2 0) 3 line → Told told x number z
+unfolding readNumber putTold
+refused-told told line number e stored = (ap readNumber e, stored ∙ ap (λ (y : Answer). putTold y told) e)
+
+-- ---- a step
+
+-- the numbers stored of a step's answer x, and the cells left, are those of the step
+pub stepped : (P : List ℕ) (t : ℕ) (s answer : List ℕ) {x : Step} {r : ℕ} {z ans : List ℕ} → x ≡ stepBy P t s .answer
+    → z ≡ stepBy P t s .cells → ans ≡ putSix 0 (stepSix x) answer → r ≡ stepSix x .number
+    → (r ≡ sixOf (stepAnswer (stepBy P t s .answer)) .number)
+    × ((ans ≡ putSix 0 (sixOf (stepAnswer (stepBy P t s .answer))) answer) × (z ≡ stepBy P t s .cells))
+unfolding performBy
+stepped P t s answer e cells stored number =
+    let w = sym (step-six P t s e) in
+    (number ∙ ap (λ (y : Six). y .number) w, (stored ∙ ap (λ (y : Six). putSix 0 y answer) w, cells))
+
+-- ---- a run
+
+pub behind-number : (z : ℕ) {x : Put} → Behind z ≡ x → putNumber x ≡ 0
+unfolding putNumber
+behind-number z e = ap putNumber (sym e)
+
+pub behind-end : (end : List ℕ) (z : ℕ) {x : Put} → Behind z ≡ x → set end 0 z ≡ putEnd x end
+unfolding putEnd
+behind-end end z e = ap (λ (n : ℕ). set end 0 n) (omega arith) ∙ ap (λ (y : Put). putEnd y end) e
+
+pub short-number : {x : Put} → Short ≡ x → putNumber x ≡ 18
+unfolding putNumber
+short-number e = ap putNumber (sym e)
+
+pub short-end : (end : List ℕ) {x : Put} → Short ≡ x → set end 0 0 ≡ putEnd x end
+unfolding putEnd
+short-end end e = ap (λ (y : Put). putEnd y end) e

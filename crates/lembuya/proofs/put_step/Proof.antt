@@ -1,0 +1,40 @@
+-- `put_step` meets its contract: the six stores are the definition's.
+use mathlib.Core.Path.{refl}
+use Rattle.calls.specs.Table.{putSix}
+use borrow.Author.Needs.{needs}
+use Rattle.lembuya.proofs.put_step.Statement.{statement}
+use Rattle.lembuya.proofs.put_step.Tie as tie
+
+element-write-answer : tie.Need-element-write-answer
+element-write-answer c = search needs
+
+element-write-answer-2 : tie.Need-element-write-answer-2
+element-write-answer-2 c = search needs
+
+element-write-answer-3 : tie.Need-element-write-answer-3
+element-write-answer-3 c = search needs
+
+element-write-answer-4 : tie.Need-element-write-answer-4
+element-write-answer-4 c = search needs
+
+element-write-answer-5 : tie.Need-element-write-answer-5
+element-write-answer-5 c = search needs
+
+element-write-answer-6 : tie.Need-element-write-answer-6
+element-write-answer-6 c = search needs
+
+returns : tie.Need-returns
+unfolding putSix
+returns c = (refl, refl)
+
+pub put-step-spec : {M : Type 1} → statement M
+put-step-spec =
+    tie.close
+    (tie.spec
+    element-write-answer
+    element-write-answer-2
+    element-write-answer-3
+    element-write-answer-4
+    element-write-answer-5
+    element-write-answer-6
+    returns)

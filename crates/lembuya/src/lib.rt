@@ -1,0 +1,170 @@
+// The hub for programs in C and Rust: include/lembuya.h has a comment for each function. No exported function has a `requires`: each says its answer and
+// all that it leaves, for every content of the tables and every length of the texts, lists and buffers.
+use plan::Answer;
+use plan::Plan;
+use state::Cascade;
+use state::Step;
+use writer::Put;
+ghost use mathlib.Core.Path.{_≡_};
+ghost use lib.ListN.{set};
+ghost use Rattle.rules.specs.Call.{ask, off, reserve, until, normal, high};
+ghost use Rattle.writer.specs.Write.{putNumber};
+ghost use Rattle.plan.specs.Reading.{reading, leaves};
+ghost use Rattle.state.specs.Fresh.{freshCells};
+ghost use Rattle.state.specs.Calls.{EventPromise, stepBy, stepAnswer};
+ghost use Rattle.calls.specs.Table.{sixOf, putSix};
+ghost use Rattle.calls.specs.Promise.{ListPromise};
+ghost use Rattle.log.specs.Handed.{handed};
+ghost use Rattle.logbook.specs.Log.{logOf};
+ghost use Rattle.logbook.specs.Cells.{putLines, runBy};
+ghost use Rattle.lembuya.specs.Exports.{readNumber, putTold, putEnd};
+
+// What a plan's reader tells: nodes, hubs, where the events start and on which line.
+fn tell(told: &mut [u64; 4], nodes: u32, hubs: u32, at: usize, line: usize)
+    ensures { λ _. ⌜ now (told .exit) ≡ set (set (set (set (now (told .entry)) 0 nodes) 1 hubs) 2 at) 3 line ⌝ }
+{
+    told[0] = nodes as u64;
+    told[1] = hubs as u64;
+    told[2] = at as u64;
+    told[3] = line as u64;
+}
+
+#[no_mangle]
+pub extern "C" fn lembuya_read(text: &[u8], plan: &mut Plan, told: &mut [u64; 4]) -> u32
+    ensures { λ r. ⌜ r ≡ readNumber (reading (now (text .entry)) .answer) ⌝ }
+    ensures { λ r. ⌜ now (plan .exit) ≡ leaves (reading (now (text .entry))) (now (plan .entry)) ⌝ }
+    ensures { λ r. ⌜ now (told .exit) ≡ putTold (reading (now (text .entry)) .answer) (now (told .entry)) ⌝ }
+{
+    match plan::read(text, plan) {
+        Answer::Taken {
+            nodes,
+            hubs,
+            at,
+            line,
+        } => {
+            tell(told, nodes, hubs, at, line);
+            0
+        }
+        Answer::Refused { line, number } => {
+            tell(told, 0, 0, 0, line);
+            number as u32
+        }
+    }
+}
+
+#[no_mangle]
+pub extern "C" fn lembuya_fresh(s: &mut Cascade)
+    ensures { λ _. ⌜ now (s .exit) ≡ freshCells ⌝ }
+{
+    table::fresh(s);
+}
+
+#[no_mangle]
+pub extern "C" fn lembuya_normal(p: &Plan, s: &mut Cascade, t: u64, k: u64, b: u64) -> u32
+    ensures { λ r. ⌜ EventPromise (now (p .entry)) (ask normal t k b) (now (s .entry)) r (now (s .exit)) ⌝ }
+{
+    hub::normal(p, s, t, k, b)
+}
+
+#[no_mangle]
+pub extern "C" fn lembuya_high(p: &Plan, s: &mut Cascade, t: u64, k: u64, b: u64) -> u32
+    ensures { λ r. ⌜ EventPromise (now (p .entry)) (ask high t k b) (now (s .entry)) r (now (s .exit)) ⌝ }
+{
+    hub::high(p, s, t, k, b)
+}
+
+#[no_mangle]
+pub extern "C" fn lembuya_off(p: &Plan, s: &mut Cascade, t: u64, k: u64) -> u32
+    ensures { λ r. ⌜ EventPromise (now (p .entry)) (off t k) (now (s .entry)) r (now (s .exit)) ⌝ }
+{
+    hub::off(p, s, t, k)
+}
+
+#[no_mangle]
+pub extern "C" fn lembuya_reserve(p: &Plan, s: &mut Cascade, t: u64, k: u64, n: u64, b: u64) -> u32
+    ensures { λ r. ⌜ EventPromise (now (p .entry)) (reserve t k n b) (now (s .entry)) r (now (s .exit)) ⌝ }
+{
+    hub::reserve(p, s, t, k, n, b)
+}
+
+#[no_mangle]
+pub extern "C" fn lembuya_until(p: &Plan, s: &mut Cascade, t: u64) -> u32
+    ensures { λ r. ⌜ EventPromise (now (p .entry)) (until t) (now (s .entry)) r (now (s .exit)) ⌝ }
+{
+    hub::until(p, s, t)
+}
+
+// The six numbers of a step's answer; their first is returned.
+fn put_step(
+    answer: &mut [u64; 6],
+    number: u32,
+    time: u64,
+    node: u32,
+    class: u32,
+    end: u64,
+    moves: u64,
+) -> u32
+    ensures { λ r. ⌜ now (answer .exit) ≡ putSix 0 (record { number = number; time = time; node = node; class = class; end = end; moves = moves }) (now (answer .entry)) ⌝ }
+    ensures { λ r. ⌜ r ≡ number ⌝ }
+{
+    answer[0] = number as u64;
+    answer[1] = time;
+    answer[2] = node as u64;
+    answer[3] = class as u64;
+    answer[4] = end;
+    answer[5] = moves;
+    number
+}
+
+#[no_mangle]
+pub extern "C" fn lembuya_step(p: &Plan, s: &mut Cascade, t: u64, answer: &mut [u64; 6]) -> u32
+    ensures { λ r. ⌜ r ≡ sixOf (stepAnswer (stepBy (now (p .entry)) t (now (s .entry)) .answer)) .number ⌝ }
+    ensures { λ r. ⌜ now (answer .exit) ≡ putSix 0 (sixOf (stepAnswer (stepBy (now (p .entry)) t (now (s .entry)) .answer))) (now (answer .entry)) ⌝ }
+    ensures { λ r. ⌜ now (s .exit) ≡ stepBy (now (p .entry)) t (now (s .entry)) .cells ⌝ }
+{
+    match hub::step(p, s, t) {
+        Step::Grant {
+            time,
+            node,
+            class,
+            end,
+            moves,
+        } => put_step(answer, 1, time, node, class, end, moves),
+        Step::Rest { time, moves } => put_step(answer, 2, time, 0, 0, 0, moves),
+        Step::Quiet => put_step(answer, 3, 0, 0, 0, 0, 0),
+        Step::Refused(n) => put_step(answer, n, 0, 0, 0, 0, 0),
+    }
+}
+
+#[no_mangle]
+pub extern "C" fn lembuya_list(p: &Plan, s: &mut Cascade, calls: &[u64], answers: &mut [u64]) -> u32
+    ensures { λ r. ⌜ ListPromise (now (p .entry)) (now (s .entry)) (now (calls .entry)) (now (answers .entry)) r (now (s .exit)) (now (answers .exit)) ⌝ }
+{
+    calls::list(p, s, calls, answers)
+}
+
+#[no_mangle]
+pub extern "C" fn lembuya_run(
+    text: &[u8],
+    plan: &mut Plan,
+    s: &mut Cascade,
+    log: &mut [u8],
+    end: &mut [u64; 1],
+) -> u32
+    ensures { λ r. ⌜ r ≡ putNumber (putLines (logOf (now (text .entry))) (now (log .entry)) 0 .put) ⌝ }
+    ensures { λ r. ⌜ now (log .exit) ≡ putLines (logOf (now (text .entry))) (now (log .entry)) 0 .buffer ⌝ }
+    ensures { λ r. ⌜ now (end .exit) ≡ putEnd (putLines (logOf (now (text .entry))) (now (log .entry)) 0 .put) (now (end .entry)) ⌝ }
+    ensures { λ r. ⌜ now (plan .exit) ≡ leaves (reading (handed (now (text .entry)))) (now (plan .entry)) ⌝ }
+    ensures { λ r. ⌜ now (s .exit) ≡ runBy (now (text .entry)) (now (s .entry)) (now (log .entry)) .cells ⌝ }
+{
+    match session::run(text, plan, s, log) {
+        Put::Behind(z) => {
+            end[0] = z as u64;
+            0
+        }
+        Put::Short => {
+            end[0] = 0;
+            18
+        }
+    }
+}

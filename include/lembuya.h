@@ -1,0 +1,88 @@
+/* The cascade hub: a controller that gives turns on one shared line (IEEE 802.12, demand priority).
+ *
+ * Every function here is proved to meet its contract (crates/lembuya/src/lib.rt), never to fault and always to end, for every content of the tables
+ * and every length of the texts, lists and buffers. What a caller owes: each pointer names as many elements as said below, and what one call writes to
+ * no other argument of it overlaps.
+ *
+ * Link with liblembuya.a ('rt staticlib lembuya' writes it to target/staticlib/). Times are in bit times (10 ns at 100 Mbit/s), lengths in bits.
+ */
+#ifndef LEMBUYA_H
+#define LEMBUYA_H
+
+#include <stddef.h>
+#include <stdint.h>
+
+#ifdef __cplusplus
+extern "C" {
+#endif
+
+/* The two tables that a caller lends. They may be copied, stored and moved as plain memory. */
+#define LEMBUYA_PLAN_CELLS 1672
+#define LEMBUYA_CASCADE_CELLS 1160
+
+/* Numbers: 0 is done or taken; the others are those of document 01, "Where each no is said". */
+enum {
+    LEMBUYA_OK = 0,
+    LEMBUYA_FORM = 1,       /* a line is not the form allowed here, its LF is missing, or the text ends early; a call of no kind in a list */
+    LEMBUYA_FIGURE = 2,     /* T, O or D is out of range */
+    LEMBUYA_LIMIT = 3,      /* a limit of the tree is passed, a hub has no port, or the plan has no node */
+    LEMBUYA_TIME = 11,      /* t is above 10^15, or before the clock */
+    LEMBUYA_DUE = 12,       /* an instant strictly before t is due: step first */
+    LEMBUYA_NODE = 13,      /* k is 0 or above N */
+    LEMBUYA_PACKETS = 14,   /* n is above 64 */
+    LEMBUYA_LENGTH = 15,    /* b is not 512 to 12,000; in a reserve with n = 0: b is not 0 */
+    LEMBUYA_UNRESERVED = 16,/* high: n in force at t is 0, or b is above the b in force */
+    LEMBUYA_FULL = 17,      /* reserve: the frame can't hold it */
+    LEMBUYA_SHORT = 18      /* a lent buffer or table is too short: nothing is written there */
+};
+
+/* Cases of a step's answer, the first of its six numbers; any other is the number of the row that refused it. */
+enum { LEMBUYA_TAKEN = 0, LEMBUYA_GRANT = 1, LEMBUYA_REST = 2, LEMBUYA_QUIET = 3 };
+
+/* Classes: 1 normal, 2 high. */
+enum { LEMBUYA_NORMAL = 1, LEMBUYA_HIGH = 2 };
+
+/* Kinds of a call in a list, the first of its five numbers. */
+enum {
+    LEMBUYA_CALL_NORMAL = 1,
+    LEMBUYA_CALL_HIGH = 2,
+    LEMBUYA_CALL_OFF = 3,
+    LEMBUYA_CALL_RESERVE = 4,
+    LEMBUYA_CALL_UNTIL = 5,
+    LEMBUYA_CALL_STEP = 6
+};
+
+/* Reads the plan at the start of a text. Taken: 0, the plan's tables stand in `plan`, and `told` is nodes, hubs, the place where the events start
+ * (byte) and its line number. Refused: its number, `told` is 0, 0, 0 and the line, and `plan` is as it was. */
+uint32_t lembuya_read(const uint8_t *text, size_t length, uint32_t plan[LEMBUYA_PLAN_CELLS], uint64_t told[4]);
+
+/* The cascade's table before any event. It serves any plan. */
+void lembuya_fresh(uint32_t cascade[LEMBUYA_CASCADE_CELLS]);
+
+/* The five events: 0, or the number of the first row that applies, and then no cell changes. */
+uint32_t lembuya_normal(const uint32_t plan[LEMBUYA_PLAN_CELLS], uint32_t cascade[LEMBUYA_CASCADE_CELLS], uint64_t t, uint64_t k, uint64_t b);
+uint32_t lembuya_high(const uint32_t plan[LEMBUYA_PLAN_CELLS], uint32_t cascade[LEMBUYA_CASCADE_CELLS], uint64_t t, uint64_t k, uint64_t b);
+uint32_t lembuya_off(const uint32_t plan[LEMBUYA_PLAN_CELLS], uint32_t cascade[LEMBUYA_CASCADE_CELLS], uint64_t t, uint64_t k);
+uint32_t lembuya_reserve(const uint32_t plan[LEMBUYA_PLAN_CELLS], uint32_t cascade[LEMBUYA_CASCADE_CELLS], uint64_t t, uint64_t k, uint64_t n, uint64_t b);
+uint32_t lembuya_until(const uint32_t plan[LEMBUYA_PLAN_CELLS], uint32_t cascade[LEMBUYA_CASCADE_CELLS], uint64_t t);
+
+/* A step with bound t handles the due instant if it is strictly before t. Its answer is six numbers: the case (also returned), time, node, class, end
+ * and moves; a number that its case doesn't have is 0. */
+uint32_t lembuya_step(const uint32_t plan[LEMBUYA_PLAN_CELLS], uint32_t cascade[LEMBUYA_CASCADE_CELLS], uint64_t t, uint64_t answer[6]);
+
+/* Many calls in one: `calls` has five numbers a call (kind, t, k, n, b; a number that its kind doesn't have is not looked at), and `answers` gets six
+ * an answer, as a step's; an event's case is 0 or its row's number. 0, or 1 (`calls` ends within a call or has a call of no kind) or 18 (`answers` is too
+ * short), and then nothing is done. Lengths count numbers, not bytes. */
+uint32_t lembuya_list(const uint32_t plan[LEMBUYA_PLAN_CELLS], uint32_t cascade[LEMBUYA_CASCADE_CELLS], const uint64_t *calls, size_t calls_length,
+                      uint64_t *answers, size_t answers_length);
+
+/* The whole log of a text (plan and events, of which 65,536 bytes are looked at) into a buffer. 0, and `end` is its length; or 18, `end` is 0, and the
+ * buffer has the lines that fit before the first that doesn't. Both tables are lent for the run. */
+uint32_t lembuya_run(const uint8_t *text, size_t length, uint32_t plan[LEMBUYA_PLAN_CELLS], uint32_t cascade[LEMBUYA_CASCADE_CELLS], uint8_t *log,
+                     size_t log_length, uint64_t end[1]);
+
+#ifdef __cplusplus
+}
+#endif
+
+#endif

@@ -1,0 +1,27 @@
+//! The cascade hub as document 01 tells it, to compare other hubs with.
+//!
+//! Written from document 01 alone; its sentences stand in quotation marks at
+//! what they decide. Nodes, hubs, ports and lines are numbered from 1, times
+//! are in bit times.
+//!
+//! - [`text`], [`plan`]: lines and forms; a plan read and drawn.
+//! - [`core`]: everything that doesn't depend on how a turn is chosen.
+//! - [`flat`], [`control`]: the two ways of choosing it.
+//! - [`hub`], [`log`]: the six calls and their answers; the whole program.
+//! - [`fast`]: the flat hub again, written for speed.
+//! - [`random`], [`shrink`], [`demand3`]: tools to try a hub with.
+
+#![forbid(unsafe_code)]
+#![warn(missing_docs)]
+
+pub mod control;
+pub mod core;
+pub mod demand3;
+pub mod fast;
+pub mod flat;
+pub mod hub;
+pub mod log;
+pub mod plan;
+pub mod random;
+pub mod shrink;
+pub mod text;

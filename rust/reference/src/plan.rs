@@ -1,0 +1,219 @@
+//! The plan: three figures and a tree of hubs, read from a text and drawn.
+
+use crate::text::{Line, Lines};
+use std::ops::RangeInclusive;
+
+/// "T, the time frame, is 100,000 to 4,000,000."
+pub const FRAMES: RangeInclusive<u64> = 100_000..=4_000_000;
+/// "O, the overhead of one packet, is 0 to 50,000."
+pub const OVERHEADS: RangeInclusive<u64> = 0..=50_000;
+/// The longest packet, in bits: D "is 12,000 + O to T".
+pub const LONGEST_PACKET: u64 = 12_000;
+/// "Limits: 32 hubs".
+pub const MOST_HUBS: usize = 32;
+/// "1 to 32 ports in a hub".
+pub const MOST_PORTS: usize = 32;
+/// "1 to 256 nodes in the plan".
+pub const MOST_NODES: usize = 256;
+/// "5 levels, the root hub being level 1".
+pub const MOST_LEVELS: usize = 5;
+/// "Hub 1 is the root."
+pub const ROOT: usize = 1;
+
+/// "A port is `(node)`, `(empty)` or a hub."
+#[derive(Clone, Copy, Debug, PartialEq, Eq)]
+pub enum Port {
+    /// A node, by its number.
+    Node(usize),
+    /// Nothing.
+    Empty,
+    /// A lower hub, by its number.
+    Hub(usize),
+}
+
+/// One hub of the tree.
+#[derive(Clone, Debug, PartialEq, Eq)]
+pub struct Hub {
+    /// The ports; port q is `ports[q - 1]`.
+    pub ports: Vec<Port>,
+    /// The hub above and the port there; none for the root.
+    pub parent: Option<(usize, usize)>,
+    /// The level, the root's being 1.
+    pub level: usize,
+}
+
+/// A plan. "Nodes and hubs are numbered from 1 in line order, ports from 1
+/// within their hub."
+#[derive(Clone, Debug, PartialEq, Eq)]
+pub struct Plan {
+    /// T, the time frame.
+    pub frame: u64,
+    /// O, the overhead of one packet.
+    pub overhead: u64,
+    /// D, "the longest time that a packet in progress can hold the line".
+    pub interrupt: u64,
+    /// N, the number of nodes.
+    pub nodes: usize,
+    /// The hubs; hub h is `hubs[h - 1]`.
+    pub hubs: Vec<Hub>,
+}
+
+/// "A limit of the tree passed", row 3.
+#[derive(Clone, Copy, Debug, PartialEq, Eq)]
+pub struct Passed;
+
+impl Plan {
+    /// A plan with its root, which has no port yet.
+    pub fn new(frame: u64, overhead: u64, interrupt: u64) -> Plan {
+        let root = Hub { ports: Vec::new(), parent: None, level: 1 };
+        Plan { frame, overhead, interrupt, nodes: 0, hubs: vec![root] }
+    }
+
+    /// Hub h.
+    pub fn hub(&self, h: usize) -> &Hub {
+        &self.hubs[h - 1]
+    }
+
+    /// The number of levels.
+    pub fn levels(&self) -> usize {
+        self.hubs.iter().map(|hub| hub.level).max().unwrap_or(0)
+    }
+
+    fn add(&mut self, h: usize, port: Port) -> Result<(), Passed> {
+        let ports = &mut self.hubs[h - 1].ports;
+        if ports.len() == MOST_PORTS {
+            return Err(Passed);
+        }
+        ports.push(port);
+        Ok(())
+    }
+
+    /// The next port of hub h is empty.
+    pub fn add_empty(&mut self, h: usize) -> Result<(), Passed> {
+        self.add(h, Port::Empty)
+    }
+
+    /// The next port of hub h is the next node.
+    pub fn add_node(&mut self, h: usize) -> Result<(), Passed> {
+        if self.nodes == MOST_NODES {
+            return Err(Passed);
+        }
+        self.add(h, Port::Node(self.nodes + 1))?;
+        self.nodes += 1;
+        Ok(())
+    }
+
+    /// The next port of hub h is the next hub; its number.
+    pub fn add_hub(&mut self, h: usize) -> Result<usize, Passed> {
+        let lower = self.hubs.len() + 1;
+        let level = self.hub(h).level + 1;
+        if lower > MOST_HUBS || level > MOST_LEVELS {
+            return Err(Passed);
+        }
+        self.add(h, Port::Hub(lower))?;
+        let parent = Some((h, self.hub(h).ports.len()));
+        self.hubs.push(Hub { ports: Vec::new(), parent, level });
+        Ok(lower)
+    }
+
+    /// Hub h is closed: "a `)` closing a hub without ports, or the whole plan
+    /// without a node" passes a limit.
+    pub fn close(&self, h: usize) -> Result<(), Passed> {
+        if self.hub(h).ports.is_empty() || (h == ROOT && self.nodes == 0) {
+            return Err(Passed);
+        }
+        Ok(())
+    }
+}
+
+/// A plan that was taken, and where its text ends.
+#[derive(Clone, Debug, PartialEq, Eq)]
+pub struct Taken {
+    /// The plan.
+    pub plan: Plan,
+    /// Where the line behind the plan begins.
+    pub at: usize,
+    /// The number of the line behind the plan.
+    pub line: u64,
+}
+
+/// A plan that was refused: "a refusal gives its number (a plan also the
+/// line)".
+#[derive(Clone, Copy, Debug, PartialEq, Eq)]
+pub struct Refused {
+    /// The line refused.
+    pub line: u64,
+    /// The row's number: 1, 2 or 3.
+    pub number: u32,
+}
+
+/// Reads a plan from the front of a text. "The first line from above, then
+/// the first row, decides."
+pub fn read(text: &[u8]) -> Result<Taken, Refused> {
+    let mut lines = Lines::new(text);
+    // "First `(frame T)`, then `(overhead O)`, then `(interrupt D)`, then one hub."
+    let frame = figure(&mut lines, "frame", FRAMES)?;
+    let overhead = figure(&mut lines, "overhead", OVERHEADS)?;
+    let interrupt = figure(&mut lines, "interrupt", LONGEST_PACKET + overhead..=frame)?;
+    let line = next(&mut lines)?;
+    if !line.is(b"(hub") {
+        return Err(Refused { line: line.number, number: 1 });
+    }
+    let mut plan = Plan::new(frame, overhead, interrupt);
+    let mut open = Some(ROOT);
+    while let Some(h) = open {
+        let line = next(&mut lines)?;
+        let row3 = |Passed| Refused { line: line.number, number: 3 };
+        // "A hub is the line `(hub`, its ports, and the line `)`."
+        if line.is(b"(node)") {
+            plan.add_node(h).map_err(row3)?;
+        } else if line.is(b"(empty)") {
+            plan.add_empty(h).map_err(row3)?;
+        } else if line.is(b"(hub") {
+            open = Some(plan.add_hub(h).map_err(row3)?);
+        } else if line.is(b")") {
+            plan.close(h).map_err(row3)?;
+            open = plan.hub(h).parent.map(|(above, _)| above);
+        } else {
+            return Err(Refused { line: line.number, number: 1 });
+        }
+    }
+    Ok(Taken { plan, at: lines.at, line: lines.number })
+}
+
+/// The next line; row 1 where "the text ends early (line after the last)".
+fn next<'a>(lines: &mut Lines<'a>) -> Result<Line<'a>, Refused> {
+    let line = lines.number;
+    lines.next().ok_or(Refused { line, number: 1 })
+}
+
+/// The number of a line `(word number)`: row 1, then row 2, "T, O or D out of
+/// range".
+fn figure(lines: &mut Lines, word: &str, range: RangeInclusive<u64>) -> Result<u64, Refused> {
+    let line = next(lines)?;
+    match line.form(word) {
+        None => Err(Refused { line: line.number, number: 1 }),
+        Some([number]) if !range.contains(&number) => Err(Refused { line: line.number, number: 2 }),
+        Some([number]) => Ok(number),
+    }
+}
+
+/// The text of a plan.
+pub fn draw(plan: &Plan) -> String {
+    let mut text =
+        format!("(frame {})\n(overhead {})\n(interrupt {})\n", plan.frame, plan.overhead, plan.interrupt);
+    draw_hub(plan, ROOT, &mut text);
+    text
+}
+
+fn draw_hub(plan: &Plan, h: usize, text: &mut String) {
+    text.push_str("(hub\n");
+    for port in &plan.hub(h).ports {
+        match *port {
+            Port::Node(_) => text.push_str("(node)\n"),
+            Port::Empty => text.push_str("(empty)\n"),
+            Port::Hub(lower) => draw_hub(plan, lower, text),
+        }
+    }
+    text.push_str(")\n");
+}

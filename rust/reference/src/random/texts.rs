@@ -1,0 +1,172 @@
+//! Random texts of a plan and events, valid and damaged.
+
+use super::calls::{Caller, Style};
+use super::{plans, Random};
+use crate::fast::Fast;
+use crate::hub::Call;
+use crate::log::{steps, LONGEST_TEXT};
+use crate::plan::draw;
+
+/// Figures at the ends of their ranges and one past them.
+const FIGURES: [&str; 29] = [
+    "0",
+    "1",
+    "2",
+    "4",
+    "5",
+    "32",
+    "33",
+    "64",
+    "65",
+    "256",
+    "257",
+    "511",
+    "512",
+    "11999",
+    "12000",
+    "12001",
+    "50000",
+    "50001",
+    "99999",
+    "100000",
+    "4000000",
+    "4000001",
+    "999999999999999",
+    "1000000000000000",
+    "1000000000000001",
+    "9999999999999999",
+    "10000000000000000",
+    "00",
+    "18446744073709551616",
+];
+
+/// A random text: half of them valid plans with events some of which are
+/// refused, half damaged.
+pub fn text(random: &mut Random) -> Vec<u8> {
+    let mut text = whole(random);
+    if random.chance(50) {
+        for _ in 0..random.within(1..=4) {
+            damage(random, &mut text);
+        }
+    }
+    text
+}
+
+/// A plan with events, none of them damaged.
+pub fn whole(random: &mut Random) -> Vec<u8> {
+    let plan = plans::plan(random);
+    let mut text = draw(&plan);
+    let style = if random.chance(70) { Style::Mixed } else { Style::Loaded };
+    let mut caller = Caller::new(&plan, random.number(), style);
+    let mut hub = Fast::new(&plan);
+    let calls = if random.chance(3) { 4_000 } else { random.within(0..=120) };
+    for _ in 0..calls {
+        let call = caller.next_call();
+        if let Call::Step { .. } = call {
+            continue;
+        }
+        // The program makes the steps itself.
+        steps(&mut hub, call.time(), |step| caller.hear(Call::Step { t: call.time() }, step));
+        let answer = hub.call(call);
+        caller.hear(call, answer);
+        text.push_str(&line(call));
+    }
+    text.into_bytes()
+}
+
+/// An event's line. A step has none.
+pub fn line(call: Call) -> String {
+    match call {
+        Call::Normal { t, k, b } => format!("(normal {t} {k} {b})\n"),
+        Call::High { t, k, b } => format!("(high {t} {k} {b})\n"),
+        Call::Off { t, k } => format!("(off {t} {k})\n"),
+        Call::Reserve { t, k, n, b } => format!("(reserve {t} {k} {n} {b})\n"),
+        Call::Until { t } => format!("(until {t})\n"),
+        Call::Step { .. } => String::new(),
+    }
+}
+
+/// One damage.
+fn damage(random: &mut Random, text: &mut Vec<u8>) {
+    if text.is_empty() {
+        return;
+    }
+    match random.below(13) {
+        // A bit flipped.
+        0 => {
+            let at = random.place(text.len());
+            text[at] ^= 1 << random.below(8);
+        }
+        // A byte in place of another.
+        1 => {
+            let at = random.place(text.len());
+            text[at] = random.one_of(b"()0 19\n\r\t\0nh\xff");
+        }
+        // A byte more, or less.
+        2 => text.insert(random.place(text.len()), random.one_of(b"()0 19\n\r")),
+        3 => {
+            text.remove(random.place(text.len()));
+        }
+        // A text cut anywhere, and one without its last LF.
+        4 => text.truncate(random.place(text.len())),
+        5 => {
+            text.pop();
+        }
+        // Lines cut, doubled, swapped.
+        6 => lines(text, |lines| {
+            lines.remove(random.place(lines.len()));
+        }),
+        7 => lines(text, |lines| {
+            let line = lines[random.place(lines.len())].clone();
+            lines.insert(random.place(lines.len()), line);
+        }),
+        8 => lines(text, |lines| {
+            let (one, other) = (random.place(lines.len()), random.place(lines.len()));
+            lines.swap(one, other);
+        }),
+        9 => lines(text, |lines| {
+            let at = random.place(lines.len());
+            let word: &[u8] = random.one_of(&[b"(node)\n", b"(empty)\n", b"(hub\n", b")\n", b"\n"]);
+            for _ in 0..random.one_of(&[1, 1, 5, 33, 257]) {
+                lines.insert(at, word.to_vec());
+            }
+        }),
+        // Longer than the program reads.
+        10 if random.chance(20) => {
+            let tail = text[text.len() / 2..].to_vec();
+            while text.len() <= LONGEST_TEXT {
+                text.extend_from_slice(&tail);
+            }
+        }
+        // A figure in place of another; early ones are the plan's.
+        _ => {
+            let early = random.chance(30);
+            lines(text, |lines| {
+                let at = random.place(if early { lines.len().min(3) } else { lines.len() });
+                let figure = random.one_of(&FIGURES);
+                replace_figure(random, &mut lines[at], figure);
+            });
+        }
+    }
+}
+
+/// Works on a text line by line.
+fn lines(text: &mut Vec<u8>, work: impl FnOnce(&mut Vec<Vec<u8>>)) {
+    let mut lines: Vec<Vec<u8>> = text.split_inclusive(|&byte| byte == b'\n').map(<[u8]>::to_vec).collect();
+    if !lines.is_empty() {
+        work(&mut lines);
+    }
+    *text = lines.concat();
+}
+
+/// One of a line's words becomes this figure, if it is a number.
+fn replace_figure(random: &mut Random, line: &mut Vec<u8>, figure: &str) {
+    let starts: Vec<usize> =
+        (1..line.len()).filter(|&at| line[at].is_ascii_digit() && !line[at - 1].is_ascii_digit()).collect();
+    if starts.is_empty() {
+        return;
+    }
+    let start = starts[random.place(starts.len())];
+    let digits = line[start..].iter().take_while(|byte| byte.is_ascii_digit()).count();
+    line.splice(start..start + digits, figure.bytes());
+}

@@ -1,0 +1,82 @@
+//! Flat, control and fast answer alike on random lists of calls.
+
+mod common;
+
+use common::{control, flat};
+use reference::fast::Fast;
+use reference::hub::{Answer, Call};
+use reference::random::calls::{Caller, Style};
+use reference::random::{plans, Random};
+
+/// What the lists met.
+#[derive(Default, Debug)]
+struct Met {
+    refused: [u64; 18],
+    taken: u64,
+    grants: [u64; 2],
+    rests: u64,
+    quiet: u64,
+    most_moves: u64,
+    most_levels: u64,
+}
+
+impl Met {
+    fn count(&mut self, answer: Answer) {
+        match answer {
+            Answer::Refused(row) => self.refused[row as usize] += 1,
+            Answer::Taken => self.taken += 1,
+            Answer::Grant { class, .. } => self.grants[class as usize] += 1,
+            Answer::Rest { .. } => self.rests += 1,
+            Answer::Quiet => self.quiet += 1,
+        }
+        self.most_moves = self.most_moves.max(answer.moves());
+    }
+}
+
+fn agree(seed: u64, calls: u64, met: &mut Met) {
+    let mut random = Random::new(seed);
+    let plan = plans::plan(&mut random);
+    let style = if random.chance(60) { Style::Mixed } else { Style::Loaded };
+    let mut caller = Caller::new(&plan, random.number(), style);
+    let (mut flat, mut control, mut fast) = (flat(&plan), control(&plan), Fast::new(&plan));
+    let levels = plan.levels() as u64;
+    met.most_levels = met.most_levels.max(levels);
+    for place in 0..calls {
+        let call: Call = caller.next_call();
+        let answer = control.call(call);
+        let at = || format!("seed {seed}, call {place}: {call:?}");
+        assert_eq!(flat.call(call), answer.without_moves(), "flat, {}", at());
+        assert_eq!(fast.call(call), answer.without_moves(), "fast, {}", at());
+        assert!(answer.moves() <= 4 * (levels - 1), "moves {}, {}", answer.moves(), at());
+        met.count(answer);
+        caller.hear(call, answer);
+    }
+}
+
+fn lists(seeds: std::ops::Range<u64>, calls: u64) -> Met {
+    let mut met = Met::default();
+    for seed in seeds {
+        agree(seed, calls, &mut met);
+    }
+    println!("{met:?}");
+    met
+}
+
+#[test]
+fn the_three_hubs_agree() {
+    let met = lists(0..600, 500);
+    for row in 11..=17 {
+        assert!(met.refused[row] > 500, "row {row} was hardly met: {met:?}");
+    }
+    assert!(met.grants.iter().all(|&grants| grants > 5_000), "{met:?}");
+    assert!(met.rests > 5_000 && met.quiet > 5_000 && met.taken > 50_000, "{met:?}");
+    assert!(met.most_levels == 5 && met.most_moves >= 12, "{met:?}");
+}
+
+/// `cargo test --release -- --ignored`, with LISTS to say how many.
+#[test]
+#[ignore = "long"]
+fn the_three_hubs_agree_for_long() {
+    let many = std::env::var("LISTS").ok().and_then(|lists| lists.parse().ok()).unwrap_or(20_000);
+    lists(1_000_000..1_000_000 + many, 1_000);
+}

@@ -1,0 +1,35 @@
+//! What several tests use.
+#![allow(dead_code)]
+
+use reference::control::Control;
+use reference::core::Class;
+use reference::fast::Fast;
+use reference::flat::Flat;
+use reference::hub::{Answer, Calls, Hub};
+use reference::plan::{read, Plan};
+
+/// Document 01's plan of the log and of most trial cases.
+pub const PLAN: &str =
+    "(frame 100000)\n(overhead 1000)\n(interrupt 13000)\n(hub\n(node)\n(hub\n(node)\n(node)\n)\n(node)\n)\n";
+
+pub fn plan(text: &str) -> Plan {
+    read(text.as_bytes()).expect("a good plan").plan
+}
+
+pub fn flat(plan: &Plan) -> Hub<Flat> {
+    Hub::new(plan, Flat::new(plan))
+}
+
+pub fn control(plan: &Plan) -> Hub<Control> {
+    Hub::new(plan, Control::new(plan))
+}
+
+/// The three hubs, control first.
+pub fn hubs(plan: &Plan) -> [Box<dyn Calls>; 3] {
+    [Box::new(control(plan)), Box::new(flat(plan)), Box::new(Fast::new(plan))]
+}
+
+pub fn grant(time: u64, node: u64, class: u64, end: u64, moves: u64) -> Answer {
+    let class = if class == 1 { Class::Normal } else { Class::High };
+    Answer::Grant { time, node, class, end, moves }
+}

@@ -1,0 +1,86 @@
+//! Random texts, the plan's drawing, and shrinking.
+
+mod common;
+
+use common::{control, flat, PLAN};
+use reference::fast::Fast;
+use reference::log::{log, log_of};
+use reference::plan::{draw, read, Taken};
+use reference::random::{plans, texts, Random};
+use reference::shrink::shrink;
+use std::collections::BTreeMap;
+
+/// A log without the moves of its grants and rests.
+fn without_moves(log: &[u8]) -> Vec<u8> {
+    let mut out = Vec::new();
+    for line in log.split_inclusive(|&byte| byte == b'\n') {
+        let moves = line.starts_with(b"(grant") || line.starts_with(b"(rest");
+        let behind = line.iter().rposition(|&byte| byte == b' ').filter(|_| moves).unwrap_or(line.len());
+        out.extend_from_slice(&line[..behind]);
+    }
+    out
+}
+
+#[test]
+fn a_drawn_plan_reads_as_itself() {
+    let mut random = Random::new(1);
+    let (mut most_nodes, mut most_hubs, mut most_levels, mut most_ports) = (0, 0, 0, 0);
+    for _ in 0..2_000 {
+        let plan = plans::plan(&mut random);
+        most_nodes = most_nodes.max(plan.nodes);
+        most_hubs = most_hubs.max(plan.hubs.len());
+        most_levels = most_levels.max(plan.levels());
+        most_ports = most_ports.max(plan.hubs.iter().map(|hub| hub.ports.len()).max().unwrap());
+        let text = draw(&plan);
+        let (at, line) = (text.len(), text.lines().count() as u64 + 1);
+        assert_eq!(read(text.as_bytes()), Ok(Taken { plan: plan.clone(), at, line }));
+        let more = format!("{text})\n(until 3");
+        assert_eq!(read(more.as_bytes()), Ok(Taken { plan, at, line }));
+    }
+    assert_eq!((most_nodes, most_hubs, most_levels, most_ports), (256, 32, 5, 32));
+}
+
+#[test]
+fn random_texts_have_one_log() {
+    let mut refused: BTreeMap<(bool, String), u64> = BTreeMap::new();
+    for seed in 0..3_000 {
+        let text = texts::text(&mut Random::new(seed));
+        let by_control = log(&text);
+        assert_eq!(by_control, log_of(&text, control));
+        assert!(without_moves(&by_control) == without_moves(&log_of(&text, flat)), "seed {seed}");
+        assert!(without_moves(&by_control) == without_moves(&log_of(&text, Fast::new)), "seed {seed}");
+        let cut = &text[..text.len().min(65_536)];
+        assert!(by_control == log(cut), "seed {seed}");
+        let lines = String::from_utf8(by_control).unwrap();
+        let bad_plan = lines.starts_with("(refused");
+        for line in lines.lines().filter(|line| line.starts_with("(refused")) {
+            let number = line.trim_end_matches(')').rsplit(' ').next().unwrap();
+            *refused.entry((bad_plan, number.to_string())).or_default() += 1;
+        }
+    }
+    println!("{refused:?}");
+    for (bad_plan, number) in [(true, 1), (true, 2), (true, 3), (false, 1), (false, 11)] {
+        assert!(refused[&(bad_plan, number.to_string())] > 20, "{refused:?}");
+    }
+    for number in 13..=17 {
+        assert!(refused[&(false, number.to_string())] > 20, "{refused:?}");
+    }
+    assert!(!refused.contains_key(&(false, "12".to_string())), "it never meets 12");
+}
+
+#[test]
+fn a_failing_text_shrinks() {
+    let fails = |text: &[u8]| String::from_utf8(log(text)).unwrap().contains(" 17)\n(");
+    let seed = (0..).find(|&seed| fails(&texts::whole(&mut Random::new(seed)))).unwrap();
+    let text = texts::whole(&mut Random::new(seed));
+    let short = shrink(&text, fails);
+    println!("{} bytes:\n{}", text.len(), String::from_utf8_lossy(&short));
+    assert!(fails(&short));
+    assert!(short.split_inclusive(|&byte| byte == b'\n').count() <= 8);
+    // A number stops just above where it no longer fails: 12,000 + 8 × 11,001.
+    let over = |text: &[u8]| log(text).ends_with(b"(refused 12 17)\n");
+    let text = format!("{PLAN}(reserve 99 1 29 12000)\n");
+    let short = String::from_utf8(shrink(text.as_bytes(), over)).unwrap();
+    let figures = "(frame 100000)\n(overhead 0)\n(interrupt 12000)\n";
+    assert!(short.starts_with(figures) && short.ends_with("(reserve 0 1 8 11001)\n"), "{short}");
+}

@@ -1,0 +1,170 @@
+//! Document 01's trial cases M1 to M10, by control with its moves and by the
+//! flat hubs without.
+
+mod common;
+
+use common::{grant, hubs, plan, PLAN};
+use reference::hub::Answer::{self, Quiet, Refused, Rest, Taken};
+use reference::hub::Call::{self, High, Normal, Off, Reserve, Step, Until};
+use reference::plan::{read, Plan};
+
+/// These calls get these answers.
+fn trial(plan: &Plan, table: &[(Call, Answer)]) {
+    for (which, hub) in hubs(plan).iter_mut().enumerate() {
+        for (place, &(call, answer)) in table.iter().enumerate() {
+            let expected = if which == 0 { answer } else { answer.without_moves() };
+            assert_eq!(hub.call(call), expected, "hub {which}, call {place}: {call:?}");
+        }
+    }
+}
+
+fn nine() -> Plan {
+    plan(&format!("(frame 100000)\n(overhead 1000)\n(interrupt 13000)\n(hub\n{})\n", "(node)\n".repeat(9)))
+}
+
+const ALL: Call = Step { t: 1_000_000_000_000_000 };
+
+#[test]
+fn m1_and_m2_go_round() {
+    let normal = |t, k| (Normal { t, k, b: 1000 }, Taken);
+    trial(
+        &nine(),
+        &[
+            normal(0, 2),
+            (ALL, grant(0, 2, 1, 2000, 0)),
+            normal(10, 2),
+            normal(10, 3),
+            normal(10, 5),
+            normal(10, 9),
+            (ALL, grant(2000, 3, 1, 4000, 0)),
+            (ALL, grant(4000, 5, 1, 6000, 0)),
+            (ALL, grant(6000, 9, 1, 8000, 0)),
+            (ALL, grant(8000, 2, 1, 10000, 0)),
+            (ALL, Rest { time: 10000, moves: 0 }),
+            (ALL, Quiet),
+        ],
+    );
+    trial(
+        &nine(),
+        &[normal(0, 8), (ALL, grant(0, 8, 1, 2000, 0)), normal(10, 1), (ALL, grant(2000, 1, 1, 4000, 0))],
+    );
+}
+
+#[test]
+fn m3_the_same_node_again() {
+    trial(
+        &plan(PLAN),
+        &[
+            (Normal { t: 0, k: 2, b: 1000 }, Taken),
+            (ALL, grant(0, 2, 1, 2000, 1)),
+            (Normal { t: 5, k: 2, b: 1000 }, Taken),
+            (ALL, grant(2000, 2, 1, 4000, 2)),
+        ],
+    );
+}
+
+#[test]
+fn m4_a_change_of_class_and_back() {
+    trial(
+        &plan(PLAN),
+        &[
+            (Reserve { t: 0, k: 4, n: 1, b: 4000 }, Taken),
+            (Normal { t: 100_000, k: 2, b: 1000 }, Taken),
+            (ALL, grant(100_000, 2, 1, 102_000, 1)),
+            (High { t: 100_001, k: 4, b: 4000 }, Taken),
+            (ALL, grant(102_000, 4, 2, 107_000, 1)),
+            (Normal { t: 102_001, k: 2, b: 1000 }, Taken),
+            (Normal { t: 102_001, k: 3, b: 1000 }, Taken),
+            (ALL, grant(107_000, 3, 1, 109_000, 1)),
+        ],
+    );
+}
+
+#[test]
+fn m5_admission() {
+    trial(&plan(PLAN), &[(Reserve { t: 0, k: 1, n: 29, b: 2000 }, Taken)]);
+    trial(&plan(PLAN), &[(Reserve { t: 0, k: 1, n: 29, b: 2001 }, Refused(17))]);
+}
+
+#[test]
+fn m6_packets_a_frame() {
+    trial(
+        &plan(PLAN),
+        &[
+            // 64 packets pass row 14; here the frame can't hold them.
+            (Reserve { t: 0, k: 1, n: 64, b: 512 }, Refused(17)),
+            (Reserve { t: 0, k: 1, n: 65, b: 512 }, Refused(14)),
+            (Reserve { t: 0, k: 1, n: 0, b: 512 }, Refused(15)),
+            (Reserve { t: 0, k: 1, n: 0, b: 0 }, Taken),
+        ],
+    );
+}
+
+#[test]
+fn m7_lengths() {
+    for (b, answer) in [(512, Taken), (12_000, Taken), (511, Refused(15)), (12_001, Refused(15))] {
+        trial(&plan(PLAN), &[(Normal { t: 0, k: 1, b }, answer), (Reserve { t: 0, k: 1, n: 1, b }, answer)]);
+        let high = if answer == Taken { Refused(16) } else { answer };
+        trial(&plan(PLAN), &[(High { t: 0, k: 1, b }, high)]);
+    }
+}
+
+#[test]
+fn m8_held_to_the_next_frame() {
+    trial(
+        &plan(PLAN),
+        &[
+            (Reserve { t: 0, k: 3, n: 1, b: 4000 }, Taken),
+            (High { t: 100_000, k: 3, b: 4000 }, Taken),
+            (ALL, grant(100_000, 3, 2, 105_000, 1)),
+            (High { t: 100_500, k: 3, b: 4000 }, Taken),
+            (ALL, Rest { time: 105_000, moves: 1 }),
+            (Step { t: 200_000 }, Quiet),
+            (ALL, grant(200_000, 3, 2, 205_000, 3)),
+        ],
+    );
+}
+
+#[test]
+fn m9_a_bound_at_the_due_instant() {
+    trial(
+        &plan(PLAN),
+        &[
+            (Normal { t: 7, k: 1, b: 1000 }, Taken),
+            (Step { t: 7 }, Quiet),
+            (Step { t: 8 }, grant(7, 1, 1, 2007, 0)),
+            (Step { t: 2007 }, Quiet),
+            (Off { t: 2007, k: 1 }, Taken),
+            (Until { t: 2008 }, Refused(12)),
+            (Step { t: 2008 }, Rest { time: 2007, moves: 0 }),
+        ],
+    );
+}
+
+#[test]
+fn m10_plans() {
+    let figures = PLAN.replace("13000", "12999");
+    assert_eq!(read(figures.as_bytes()).map_err(|refused| (refused.line, refused.number)), Err((3, 2)));
+    let six = format!("{}{}(node)\n", &PLAN[..PLAN.find("(hub").unwrap()], "(hub\n".repeat(6));
+    assert_eq!(read(six.as_bytes()).map_err(|refused| (refused.line, refused.number)), Err((9, 3)));
+}
+
+#[test]
+fn times_up_to_the_largest_number() {
+    let last = 1_000_000_000_000_000;
+    trial(
+        &plan(PLAN),
+        &[
+            (Until { t: u64::MAX }, Refused(11)),
+            (Step { t: u64::MAX }, Refused(11)),
+            (Normal { t: last, k: u64::MAX, b: 512 }, Refused(13)),
+            (Reserve { t: last, k: 1, n: u64::MAX, b: u64::MAX }, Refused(14)),
+            (Reserve { t: last, k: 1, n: 64, b: u64::MAX }, Refused(15)),
+            (Normal { t: last, k: 1, b: 512 }, Taken),
+            (Step { t: last }, Quiet),
+            (Step { t: last + 1 }, Refused(11)),
+            (Until { t: last }, Taken),
+            (Until { t: last - 1 }, Refused(11)),
+        ],
+    );
+}

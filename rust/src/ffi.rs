@@ -1,0 +1,64 @@
+//! The archive's functions as they are. `include/lembuya.h` says the same in C.
+//!
+//! A caller owes two things: each pointer names as many elements as its type or its length says, and
+//! what a call writes overlaps no other argument of it. The content of the tables is free: every
+//! function answers and comes back. A number is 0, or that of a row in document 01, "Where each no
+//! is said".
+
+/// How many 32-bit cells a plan's table has.
+pub const PLAN_CELLS: usize = 1672;
+/// How many 32-bit cells a cascade's table has.
+pub const CASCADE_CELLS: usize = 1160;
+
+/// A plan's table. It may be copied, stored and moved.
+pub type Plan = [u32; PLAN_CELLS];
+/// A cascade's table. It may be copied, stored and moved.
+pub type Cascade = [u32; CASCADE_CELLS];
+
+extern "C" {
+    /// Reads the plan at the start of a text. Taken: 0, the plan's table is filled, and `told` is
+    /// nodes, hubs, the byte where the events start and its line number. Refused: the number, `told`
+    /// is 0, 0, 0 and the line, and `plan` is as it was.
+    pub fn lembuya_read(text: *const u8, length: usize, plan: *mut Plan, told: *mut [u64; 4]) -> u32;
+    /// Makes the cascade's table as it is before any event. It serves any plan.
+    pub fn lembuya_fresh(cascade: *mut Cascade);
+    /// `(normal t k b)`. Refused: the number, and no cell changes.
+    pub fn lembuya_normal(plan: *const Plan, cascade: *mut Cascade, t: u64, k: u64, b: u64) -> u32;
+    /// `(high t k b)`. Refused: the number, and no cell changes.
+    pub fn lembuya_high(plan: *const Plan, cascade: *mut Cascade, t: u64, k: u64, b: u64) -> u32;
+    /// `(off t k)`. Refused: the number, and no cell changes.
+    pub fn lembuya_off(plan: *const Plan, cascade: *mut Cascade, t: u64, k: u64) -> u32;
+    /// `(reserve t k n b)`. Refused: the number, and no cell changes.
+    pub fn lembuya_reserve(plan: *const Plan, cascade: *mut Cascade, t: u64, k: u64, n: u64, b: u64) -> u32;
+    /// `(until t)`. Refused: the number, and no cell changes.
+    pub fn lembuya_until(plan: *const Plan, cascade: *mut Cascade, t: u64) -> u32;
+    /// A step with bound `t`. `answer` is its case, time, node, class (1 normal, 2 high), end and
+    /// moves, 0 where its case has none. The case, also returned, is 1 for a grant, 2 for a rest, 3
+    /// for quiet, and else the number that refused it; quiet and refused change no cell.
+    pub fn lembuya_step(plan: *const Plan, cascade: *mut Cascade, t: u64, answer: *mut [u64; 6]) -> u32;
+    /// Many calls in one. `calls` has five numbers a call: its kind (1 normal, 2 high, 3 off, 4
+    /// reserve, 5 until, 6 step), t, k, n and b, of which those that the kind lacks are not looked
+    /// at. `answers` gets six an answer, as a step's; an event's case is 0 or its number. The lengths
+    /// count numbers. 0; or 1 (`calls` ends within a call or has a call of no kind) or 18 (`answers`
+    /// is too short), and then nothing is done.
+    pub fn lembuya_list(
+        plan: *const Plan,
+        cascade: *mut Cascade,
+        calls: *const u64,
+        calls_length: usize,
+        answers: *mut u64,
+        answers_length: usize,
+    ) -> u32;
+    /// The whole log of a text into a buffer, with both tables lent for the run. 0, and `end` is the
+    /// log's length; or 18, `end` is 0, and the buffer has the lines that fit before the first that
+    /// doesn't.
+    pub fn lembuya_run(
+        text: *const u8,
+        length: usize,
+        plan: *mut Plan,
+        cascade: *mut Cascade,
+        log: *mut u8,
+        log_length: usize,
+        end: *mut [u64; 1],
+    ) -> u32;
+}

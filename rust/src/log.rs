@@ -1,0 +1,97 @@
+//! The whole program: a text in, its log out.
+
+use crate::{ffi, safe, Short};
+
+/// How many bytes of a text are looked at; bytes behind these count as not there.
+pub const LONGEST_TEXT: usize = 65_536;
+
+/// No log is longer, in bytes.
+///
+/// The most that a byte of a text can give is a blank line's refusal, `(refused 65536 1)` and its
+/// LF: 18 bytes. An event line has 10 bytes or more and gives at most a refusal of 19, or is a request
+/// of 15 or more and gives at most a grant of 50 and a rest of 25.
+pub const LONGEST_LOG: usize = 18 * LONGEST_TEXT;
+
+/// The log of a text, which holds a plan and events.
+///
+/// Before each event it makes all steps strictly before the event's time. Every line of the log
+/// ends with an LF; a plan that is refused gives only the refused line.
+///
+/// ```
+/// let text = b"(frame 100000)\n(overhead 1000)\n(interrupt 13000)\n(hub\n(node)\n)\n\
+///     (normal 0 1 12000)\n(normal 0 2 12000)\n(until 20000)\n";
+/// let log = b"(nodes 1 hubs 1)\n(refused 8 13)\n(grant 0 1 1 13000 0)\n(rest 13000 0)\n";
+/// assert_eq!(lembuya::log(text), log);
+/// ```
+pub fn log(text: &[u8]) -> Vec<u8> {
+    let mut log = vec![0; LONGEST_LOG];
+    let end = log_into(text, &mut log).expect("no log is longer than LONGEST_LOG");
+    log.truncate(end);
+    log.shrink_to_fit();
+    log
+}
+
+/// Writes the [log](log()) of a text into a lent buffer and gives its length. Bytes behind it are
+/// unchanged.
+///
+/// # Errors
+///
+/// Row 18, where a line doesn't fit. The lines before it stand in the buffer, and the bytes behind
+/// these are unchanged.
+///
+/// ```
+/// use lembuya::log_into;
+///
+/// let mut buffer = [b'-'; 16];
+/// assert_eq!(log_into(b"(frame 99999)\n", &mut buffer), Ok(14));
+/// assert_eq!(&buffer, b"(refused 1 2)\n--");
+/// ```
+pub fn log_into(text: &[u8], log: &mut [u8]) -> Result<usize, Short> {
+    let (mut plan, mut cascade) = ([0; ffi::PLAN_CELLS], [0; ffi::CASCADE_CELLS]);
+    match safe::run(text, &mut plan, &mut cascade, log) {
+        // The log ends within its buffer, so its length is a usize.
+        (0, end) => Ok(end as usize),
+        (18, _) => Err(Short),
+        (number, _) => unreachable!("no log is refused by {number}"),
+    }
+}
+
+#[cfg(test)]
+mod tests {
+    use super::*;
+    use crate::example::{EVENTS, LOG, PLAN};
+
+    #[test]
+    fn the_example_gives_its_log() {
+        assert_eq!(log(format!("{PLAN}{EVENTS}").as_bytes()), LOG.as_bytes());
+    }
+
+    #[test]
+    fn a_bad_plan_gives_only_the_refused_line() {
+        assert_eq!(log(b""), b"(refused 1 1)\n");
+        assert_eq!(log(format!("{PLAN}{EVENTS}").replace("(hub", "(hug").as_bytes()), b"(refused 4 1)\n");
+    }
+
+    #[test]
+    fn a_short_buffer_gets_the_lines_that_fit() {
+        let text = format!("{PLAN}{EVENTS}");
+        let mut buffer = vec![b'-'; LOG.len() + 1];
+        assert_eq!(log_into(text.as_bytes(), &mut buffer), Ok(LOG.len()));
+        assert_eq!(buffer, format!("{LOG}-").as_bytes());
+        let mut buffer = vec![b'-'; LOG.len() - 1];
+        assert_eq!(log_into(text.as_bytes(), &mut buffer), Err(Short));
+        let fits = LOG.len() - "(rest 119000 0)\n".len();
+        assert_eq!(buffer[..fits], LOG.as_bytes()[..fits]);
+        assert!(buffer[fits..].iter().all(|byte| *byte == b'-'));
+    }
+
+    #[test]
+    fn the_longest_log_fits() {
+        let mut text = PLAN.to_string();
+        text += &"\n".repeat(2 * LONGEST_TEXT);
+        let log = log(text.as_bytes());
+        let lines = LONGEST_TEXT - PLAN.len();
+        assert_eq!(log.iter().filter(|byte| **byte == b'\n').count(), 1 + lines);
+        assert!(log.ends_with(format!("(refused {} 1)\n", 11 + lines).as_bytes()));
+    }
+}

@@ -1,0 +1,77 @@
+//! The archive's functions with Rust's references and slices: all of this crate's unsafe code.
+//!
+//! A reference to a table names all of its cells, a slice as many elements as its length says, and
+//! a mutable borrow overlaps no other. That is all that `include/lembuya.h` asks of a caller: each
+//! function takes any content of its tables.
+
+#![allow(unsafe_code)]
+
+use crate::ffi::{self, Cascade, Plan};
+
+/// The number, and nodes, hubs, place and line.
+pub fn read(text: &[u8], plan: &mut Plan) -> (u32, [u64; 4]) {
+    let mut told = [0; 4];
+    // SAFETY: `text` is read for its length; `plan` and `told` are whole and borrowed mutably.
+    let number = unsafe { ffi::lembuya_read(text.as_ptr(), text.len(), plan, &mut told) };
+    (number, told)
+}
+
+pub fn fresh(cascade: &mut Cascade) {
+    // SAFETY: `cascade` is whole and borrowed mutably.
+    unsafe { ffi::lembuya_fresh(cascade) }
+}
+
+pub fn normal(plan: &Plan, cascade: &mut Cascade, t: u64, k: u64, b: u64) -> u32 {
+    // SAFETY: both tables are whole; `cascade` is borrowed mutably.
+    unsafe { ffi::lembuya_normal(plan, cascade, t, k, b) }
+}
+
+pub fn high(plan: &Plan, cascade: &mut Cascade, t: u64, k: u64, b: u64) -> u32 {
+    // SAFETY: both tables are whole; `cascade` is borrowed mutably.
+    unsafe { ffi::lembuya_high(plan, cascade, t, k, b) }
+}
+
+pub fn off(plan: &Plan, cascade: &mut Cascade, t: u64, k: u64) -> u32 {
+    // SAFETY: both tables are whole; `cascade` is borrowed mutably.
+    unsafe { ffi::lembuya_off(plan, cascade, t, k) }
+}
+
+pub fn reserve(plan: &Plan, cascade: &mut Cascade, t: u64, k: u64, n: u64, b: u64) -> u32 {
+    // SAFETY: both tables are whole; `cascade` is borrowed mutably.
+    unsafe { ffi::lembuya_reserve(plan, cascade, t, k, n, b) }
+}
+
+pub fn until(plan: &Plan, cascade: &mut Cascade, t: u64) -> u32 {
+    // SAFETY: both tables are whole; `cascade` is borrowed mutably.
+    unsafe { ffi::lembuya_until(plan, cascade, t) }
+}
+
+/// The answer's six numbers; their first is the case.
+pub fn step(plan: &Plan, cascade: &mut Cascade, t: u64) -> [u64; 6] {
+    let mut answer = [0; 6];
+    // SAFETY: both tables are whole; `cascade` and `answer` are borrowed mutably.
+    unsafe { ffi::lembuya_step(plan, cascade, t, &mut answer) };
+    answer
+}
+
+/// The number; the answers' numbers stand in `answers`.
+pub fn list(plan: &Plan, cascade: &mut Cascade, calls: &[[u64; 5]], answers: &mut [[u64; 6]]) -> u32 {
+    let calls = calls.as_flattened();
+    let answers = answers.as_flattened_mut();
+    // SAFETY: both tables are whole; `calls` is read and `answers` written for its length; `cascade`
+    // and `answers` are borrowed mutably.
+    unsafe {
+        ffi::lembuya_list(plan, cascade, calls.as_ptr(), calls.len(), answers.as_mut_ptr(), answers.len())
+    }
+}
+
+/// The number, and the log's length.
+pub fn run(text: &[u8], plan: &mut Plan, cascade: &mut Cascade, log: &mut [u8]) -> (u32, u64) {
+    let mut end = [0];
+    // SAFETY: both tables are whole; `text` is read and `log` written for its length; all but `text`
+    // are borrowed mutably.
+    let number = unsafe {
+        ffi::lembuya_run(text.as_ptr(), text.len(), plan, cascade, log.as_mut_ptr(), log.len(), &mut end)
+    };
+    (number, end[0])
+}
