@@ -6,12 +6,14 @@
 
 `stdin` holds the texts with a byte 0 between one and the next; `stdout` holds their logs, each followed by a line `--`.
 A log is from one of three places: a vector's own file; `worked`, by hand from document 01 and stated here; `reference.py`. The reference must
-give the logs of the first two as well: where it doesn't, nothing is written and the script fails.
+give the logs of the first two as well, and of each text of plan_texts.py the first line that is stated there: where it doesn't, nothing is
+written and the script fails.
 """
 import pathlib
 import random
 import sys
 
+import plan_texts
 import reference
 
 root = pathlib.Path(__file__).resolve().parent.parent
@@ -57,6 +59,10 @@ def two(T, O, D, events):
 def refusals(number, first, last):
     return [f'(refused {line} {number})' for line in range(first, last + 1)]
 
+
+# the plans of plan_texts.py, with the first lines that are worked out there
+for name, text, line in plan_texts.cases:
+    case('plan: ' + name, line, text.encode(), origin='plan')
 
 # (a) the vectors, with their own logs
 
@@ -1627,6 +1633,11 @@ def main():
             print(f'{name:34} {len(text):6} bytes {reference.log(text).count(10):5} lines  {origin:9}  {purpose}')
         return
     differing = [c for c in cases if c[3] is not None and c[3] != reference.log(c[2])]
+    firsts = [c for c in cases if c[4] == 'plan' and reference.log(c[2]).split(b'\n')[0] != c[1].encode()]
+    for name, purpose, text, log, origin in firsts:
+        print(f'== {name}: {purpose}, but the reference has', reference.log(text).decode(), sep='\n')
+    if firsts:
+        sys.exit(f'log_texts: the reference differs from {len(firsts)} first lines; nothing written')
     for name, purpose, text, log, origin in differing:
         print(f'== {name}: {purpose}', f'-- {origin}:', log.decode(), '-- reference:', reference.log(text).decode(), sep='\n')
     if differing:
@@ -1634,14 +1645,14 @@ def main():
     stdin = b'\0'.join(c[2] for c in cases)
     stdout = b''.join((c[3] if c[3] is not None else reference.log(c[2])) + b'--\n' for c in cases)
     longer = [c[0] for c in cases if len(c[2]) > 65536]
-    if stdin.count(0) != len(cases) - 1 or len({c[0] for c in cases}) != len(cases) or len(stdin) >= 900000 or not cases[-1][2] or len(longer) > 3:
+    if stdin.count(0) != len(cases) - 1 or len({c[0] for c in cases}) != len(cases) or len(stdin) >= 1048576 or not cases[-1][2] or len(longer) > 4:
         sys.exit('log_texts: a byte 0 in a text, a name twice, too many bytes, or an empty text at the end')
     folder = pathlib.Path((sys.argv[1:] or [root / 'crates' / 'logs'])[0])
     folder.mkdir(exist_ok=True)
     (folder / 'stdin').write_bytes(stdin)
     (folder / 'stdout').write_bytes(stdout)
     origins = [c[4] for c in cases]
-    print(f'{len(cases)} texts ({", ".join(f"{origins.count(o)} {o}" for o in ("vector", "worked", "reference"))}), {len(stdin)} bytes; logs {len(stdout)} bytes; longer than 65,536: {longer}')
+    print(f'{len(cases)} texts ({", ".join(f"{origins.count(o)} {o}" for o in ("plan", "vector", "worked", "reference"))}), {len(stdin)} bytes; logs {len(stdout)} bytes; longer than 65,536: {longer}')
 
 
 if __name__ == '__main__':

@@ -1,18 +1,8 @@
 #!/usr/bin/env python3
-"""Writes the texts that the program `plans` is run on, and the lines that it must write.
+"""Plan texts, each with the first line of its log, worked out by hand from document 01 and never by running a reader. tools/log_texts.py takes them.
 
-    python3 tools/plan_texts.py          writes crates/plans/stdin and crates/plans/stdout
-    python3 tools/plan_texts.py --list   prints each text's name and its line
-
-Each expected line below is worked out by hand from document 01, never by running our reader. The texts of ../shared/vectors come with the first lines
-of their logs. In `stdin` the texts are separated by byte 0, which none of them holds.
+    python3 tools/plan_texts.py          prints each text's first line and name
 """
-import pathlib
-import sys
-
-root = pathlib.Path(__file__).resolve().parent.parent
-vectors = root.parent / 'shared' / 'vectors'
-
 FIGURES = ['(frame 100000)', '(overhead 1000)', '(interrupt 13000)']
 EXAMPLE = FIGURES + ['(hub', '(node)', '(hub', '(node)', '(node)', ')', '(node)', ')']
 
@@ -156,27 +146,11 @@ plan = text(EXAMPLE)
 case('65,536 bytes', plan + '(until 1)\n' * ((65536 - len(plan)) // 10) + 'x' * ((65536 - len(plan)) % 10), taken(4, 2))
 # (no plan reaches byte 65,536: one has at most some 1,100 lines, each of at most 20 bytes)
 
-if vectors.is_dir():
-    for path in sorted(vectors.glob('*.text')):
-        first = path.with_suffix('.log').read_text().split('\n')[0]
-        cases.append((f'vector {path.stem}', path.read_bytes(), first))
-
-
-def as_bytes(t):
-    return t if isinstance(t, bytes) else t.encode()
-
 
 def main():
-    if '--list' in sys.argv:
-        for name, t, line in cases:
-            print(f'{line:24} {name} ({len(as_bytes(t))} bytes)')
-        return
-    if not vectors.is_dir():
-        sys.exit('plan_texts: ../shared/vectors is not there, and the stored files hold its texts')
-    folder = root / 'crates' / 'plans'
-    (folder / 'stdin').write_bytes(b'\0'.join(as_bytes(t) for _, t, _ in cases))
-    (folder / 'stdout').write_text(''.join(line + '\n' for _, _, line in cases))
-    print(f'{len(cases)} texts')
+    for name, t, line in cases:
+        print(f'{line:24} {name} ({len(t.encode())} bytes)')
 
 
-main()
+if __name__ == '__main__':
+    main()

@@ -1,7 +1,7 @@
 #!/usr/bin/env python3
-"""Holds the program `plans` against a second reader of document 01's plan, on random texts.
+"""Holds the program `logs` against a second reader of document 01's plan, on random texts.
 
-    rt check plans && python3 tools/random_plans.py [SEED [BATCHES]]        default 1 20
+    rt check logs && python3 tools/random_plans.py [SEED [BATCHES]]        default 1 20
 
 The reader below is written from document 01 alone. The texts are plans at and past every limit, many of them damaged: bytes changed, cut out or put in, lines
 cut and swapped. A batch is some 480,000 bytes of texts, separated by byte 0. It is no part of the gate.
@@ -110,7 +110,7 @@ def random_text(rng):
 def main():
     seed, batches = ([int(x) for x in sys.argv[1:]] + [1, 20][len(sys.argv) - 1:])[:2]
     rng = random.Random(seed)
-    program = pathlib.Path(__file__).resolve().parent.parent / 'target' / 'bin' / 'plans'
+    program = pathlib.Path(__file__).resolve().parent.parent / 'target' / 'bin' / 'logs'
     kinds = collections.Counter()
     for _ in range(batches):
         texts = []
@@ -118,7 +118,8 @@ def main():
             texts += [random_text(rng) for _ in range(50)]
         while sum(map(len, texts)) + len(texts) > 524288:
             texts.pop()
-        written = subprocess.run([program], input=b'\0'.join(texts), capture_output=True, check=True).stdout.decode().split('\n')
+        logs = subprocess.run([program], input=b'\0'.join(texts), capture_output=True, check=True).stdout.decode().split('--\n')
+        written = [log.split('\n')[0] for log in logs]
         for text, line in zip(texts, written, strict=False):
             if line != read(text):
                 sys.exit(f'random_plans: {line} for a text that is {read(text)} (seed {seed}):\n{text!r}')
