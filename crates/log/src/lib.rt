@@ -1,11 +1,9 @@
-// The log's first line: a text is read as a plan, and the line that says so is written into a lent buffer. No public function has a `requires`: each
-// says its whole answer and the whole of what is lent to it, for every input, by a definition of specs/.
+// How much of a text is read, and the log's first line, the plan's own, written into a lent buffer. No public function has a `requires`: each says its
+// whole answer and the whole of what is lent to it, for every input, by a definition of specs/.
 use plan::Answer;
-use plan::Plan;
 use writer::Put;
 ghost use mathlib.Core.Path.{_≡_};
 ghost use lib.ListN.{length, take};
-ghost use Rattle.plan.specs.Reading.{reading, leaves};
 ghost use Rattle.writer.specs.Write.{putAnswer, putBuffer, putNumber, putRow};
 ghost use Rattle.log.specs.Handed.{handed};
 ghost use Rattle.log.specs.FirstLine.{nodesHead, nodesLine, firstLine};
@@ -64,15 +62,4 @@ pub fn first_line(answer: Answer, buffer: &mut [u8], at: usize) -> Put
             writer::put_form(buffer, at, b"(refused", &numbers)
         }
     }
-}
-
-// A text is read as a plan, and its line is written. A taken plan's tables stand in `plan`; a refused one leaves it as it was.
-pub fn plan_line(text: &[u8], plan: &mut Plan, buffer: &mut [u8], at: usize) -> Put
-    ensures { λ r. ⌜ r ≡ putAnswer (now (buffer .entry)) at (firstLine (reading (handed (now (text .entry))) .answer)) ⌝ }
-    ensures { λ r. ⌜ now (plan .exit) ≡ leaves (reading (handed (now (text .entry)))) (now (plan .entry)) ⌝ }
-    ensures { λ r. ⌜ now (buffer .exit) ≡ putBuffer (now (buffer .entry)) at (firstLine (reading (handed (now (text .entry))) .answer)) ⌝ }
-    ensures { λ r. ⌜ putNumber r ≡ putRow (now (buffer .entry)) at (firstLine (reading (handed (now (text .entry))) .answer)) ⌝ }
-{
-    let answer = plan::read(handed(text), plan);
-    first_line(answer, buffer, at)
 }
