@@ -2,4 +2,5 @@
 pub mod Counting
 pub mod Pointing
 pub mod MendLaws
+pub mod BothLaws
 pub mod NodeLaws

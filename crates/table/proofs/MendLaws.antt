@@ -1,4 +1,4 @@
--- One step of `mend` for each way that the function goes.
+-- One step of `mend` for each way that a climb goes.
 use mathlib.Core.Path.{_≡_, refl, _∙_}
 use mathlib.Core.Bool.{Bool, true, false}
 use mathlib.Core.List.{List}
@@ -7,14 +7,10 @@ use native.Mathlib.Omega.{arith}
 use borrow.Author.Tests.{lt-ltb, le-ltb}
 use lib.ListN.{getD, set}
 use Rattle.ports.specs.Ports.{anyPort}
-use Rattle.ports.specs.Mask.{shows, digit}
+use Rattle.ports.specs.Mask.{shows}
 use Rattle.plan.specs.Tables as plan
 use Rattle.state.specs.Layout.{maskCell}
 use Rattle.state.specs.Masks.{mend, maskWith}
-
-pub digit-small : (b : Bool) → digit b ≤ 1
-digit-small true = omega arith
-digit-small false = omega arith
 
 module _ (P : List ℕ) (isHigh : Bool) where
   pub none-left : (levels g q : ℕ) (b : Bool) (s : List ℕ) → levels ≡ 0 → mend P isHigh levels g q b s ≡ s

@@ -36,14 +36,13 @@ module _ (P : List ℕ) (k : ℕ) (s : List ℕ) where
   unfolding mendNode
   mend-past l = past-nodes k _ s l
 
-  pub mended : 1 ≤ k → k ≤ 256 → (n h : Bool) (s₁ s₂ : List ℕ)
+  pub mended : 1 ≤ k → k ≤ 256 → (n h : Bool) (s₁ : List ℕ)
       → n ≡ countsBy false (getD s (own k) 0) (getD s (grantedCell k) 0) (getD s (forceCell k) 0)
       → h ≡ countsBy true (getD s (own k) 0) (getD s (grantedCell k) 0) (getD s (forceCell k) 0)
-      → s₁ ≡ mend P false 5 (getD P (drawn k) 0) (getD P (drawn k + 1) 0) n s
-      → s₂ ≡ mend P true 5 (getD P (drawn k) 0) (getD P (drawn k + 1) 0) h s₁
-      → s₂ ≡ mendNode P k s
+      → s₁ ≡ mend P true 5 (getD P (drawn k) 0) (getD P (drawn k + 1) 0) h (mend P false 5 (getD P (drawn k) 0) (getD P (drawn k + 1) 0) n s)
+      → s₁ ≡ mendNode P k s
   unfolding mendNode
-  mended l u n h s₁ s₂ e f g i = i ∙ simp (le-ltb k 1 l, le-ltb 256 k u, g, e, f, add-zero)
+  mended l u n h s₁ e f i = i ∙ simp (le-ltb k 1 l, le-ltb 256 k u, e, f, add-zero)
 
   module _ (x : ℕ) where
     pub request-below : k < 1 → s ≡ putRequest P k x s

@@ -3,6 +3,7 @@
 use plan::Plan;
 use state::Cascade;
 ghost use mathlib.Core.Path.{_≡_};
+ghost use mathlib.Core.Bool.{true, false};
 ghost use Prim.Native.Nat.{_+_, _*_, _≤_};
 ghost use Rattle.state.specs.Layout.{timeAt, putTime, clock-cell, end-cell};
 ghost use Rattle.state.specs.Masks.{countsBy, mend, mendNode, standingAfter, putRequest, grantedMore, grantNode};
@@ -59,9 +60,9 @@ fn counts(high: bool, x: u32, granted: u32, force: u32) -> bool
     x < 131072
 }
 
-// Port q of hub g shows a request or none: its bit is put, and so is the hub's own in its parent, up to the root, which has no parent.
-fn mend(p: &Plan, s: &mut Cascade, high: bool, g: u32, q: u32, shown: bool, levels: u32)
-    ensures { λ _. ⌜ now (s .exit) ≡ mend (now (p .entry)) high levels g q shown (now (s .entry)) ⌝ }
+// Port q of hub g shows in each class a request or none: its bits are put, and so are the hub's own in its parent, up to the root, which has no parent.
+fn mend_both(p: &Plan, s: &mut Cascade, g: u32, q: u32, normal: bool, high: bool, levels: u32)
+    ensures { λ _. ⌜ now (s .exit) ≡ mend (now (p .entry)) true levels g q high (mend (now (p .entry)) false levels g q normal (now (s .entry))) ⌝ }
 {
     if levels == 0 {
         return;
@@ -72,17 +73,19 @@ fn mend(p: &Plan, s: &mut Cascade, high: bool, g: u32, q: u32, shown: bool, leve
     if 32 < g {
         return;
     }
-    let at = 8 + (g as usize - 1) * 4 + high as usize;
-    let mask = ports::put_port(s[at], q, shown);
-    s[at] = mask;
+    let at = 8 + (g as usize - 1) * 4;
+    let n = ports::put_port(s[at], q, normal);
+    let h = ports::put_port(s[at + 1], q, high);
+    s[at] = n;
+    s[at + 1] = h;
     let own = 8 + (g as usize - 1) * 36;
-    mend(
+    mend_both(
         p,
         s,
-        high,
         p[own + 1],
         p[own + 2],
-        ports::any_shown(mask),
+        ports::any_shown(n),
+        ports::any_shown(h),
         levels - 1,
     );
 }
@@ -101,8 +104,7 @@ pub fn mend_node(p: &Plan, s: &mut Cascade, k: u32)
     let own = 1160 + (k as usize - 1) * 2;
     let normal = counts(false, s[at], s[at + 3], s[at + 1]);
     let high = counts(true, s[at], s[at + 3], s[at + 1]);
-    mend(p, s, false, p[own], p[own + 1], normal, 5);
-    mend(p, s, true, p[own], p[own + 1], high, 5);
+    mend_both(p, s, p[own], p[own + 1], normal, high, 5);
 }
 
 // The number of standing requests where a request's cell changes.

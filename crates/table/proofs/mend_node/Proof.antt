@@ -86,52 +86,33 @@ element-copy-out-counts-6 c = search needs
 counts-requires-2 : tie.Need-counts-requires-2
 counts-requires-2 c κs = search needs
 
-mul-mend : tie.Need-mul-mend
-mul-mend c = search needs
+mul-mend-both : tie.Need-mul-mend-both
+mul-mend-both c = search needs
 
-element-copy-out-mend : tie.Need-element-copy-out-mend
-element-copy-out-mend c = search needs
+element-copy-out-mend-both : tie.Need-element-copy-out-mend-both
+element-copy-out-mend-both c = search needs
 
-add-mend : tie.Need-add-mend
-add-mend c = search needs
+add-mend-both : tie.Need-add-mend-both
+add-mend-both c = search needs
 
-mul-mend-2 : tie.Need-mul-mend-2
-mul-mend-2 c = search needs
+mul-mend-both-2 : tie.Need-mul-mend-both-2
+mul-mend-both-2 c = search needs
 
-element-copy-out-mend-2 : tie.Need-element-copy-out-mend-2
-element-copy-out-mend-2 c = search needs
+element-copy-out-mend-both-2 : tie.Need-element-copy-out-mend-both-2
+element-copy-out-mend-both-2 c = search needs
 
-mend-requires : tie.Need-mend-requires
-mend-requires c κs = search needs
-
-mul-mend-3 : tie.Need-mul-mend-3
-mul-mend-3 c = search needs
-
-element-copy-out-mend-3 : tie.Need-element-copy-out-mend-3
-element-copy-out-mend-3 c = search needs
-
-add-mend-2 : tie.Need-add-mend-2
-add-mend-2 c = search needs
-
-mul-mend-4 : tie.Need-mul-mend-4
-mul-mend-4 c = search needs
-
-element-copy-out-mend-4 : tie.Need-element-copy-out-mend-4
-element-copy-out-mend-4 c = search needs
-
-mend-requires-2 : tie.Need-mend-requires-2
-mend-requires-2 c κs = search needs
+mend-both-requires : tie.Need-mend-both-requires
+mend-both-requires c κs = search needs
 
 returns-3 : tie.Need-returns-3
 returns-3 c =
-    let first = c .before .before .before .before in
-    let high = first .before .before .before .before in
+    let high = c .before .before .before .before in
     let normal = high .before .before .before .before in
     let inside = normal .before .before .before .before in
     let a = inside .before .before .args in
     mended (a .p .now) (a .k) (a .s .now) (inside .before .if1 .left) (inside .if2 .left)
-    (normal .counts .result) (high .counts2 .result) (first .mend .last .1 .0) (c .mend2 .last .1 .0)
-    (normal .counts .ensures) (high .counts2 .ensures) (first .mend .ensures) (c .mend2 .ensures)
+    (normal .counts .result) (high .counts2 .result) (c .mend-both .last .1 .0)
+    (normal .counts .ensures) (high .counts2 .ensures) (c .mend-both .ensures)
 
 pub mend-node-spec : {M : Type 1} → statement M
 mend-node-spec =
@@ -163,16 +144,10 @@ mend-node-spec =
     mul-counts-6
     element-copy-out-counts-6
     counts-requires-2
-    mul-mend
-    element-copy-out-mend
-    add-mend
-    mul-mend-2
-    element-copy-out-mend-2
-    mend-requires
-    mul-mend-3
-    element-copy-out-mend-3
-    add-mend-2
-    mul-mend-4
-    element-copy-out-mend-4
-    mend-requires-2
+    mul-mend-both
+    element-copy-out-mend-both
+    add-mend-both
+    mul-mend-both-2
+    element-copy-out-mend-both-2
+    mend-both-requires
     returns-3)
