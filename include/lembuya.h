@@ -78,7 +78,7 @@ uint32_t lembuya_list(const uint32_t plan[LEMBUYA_PLAN_CELLS], uint32_t cascade[
 
 /* The whole log of a text (plan and events, of which 65,536 bytes are looked at) into a buffer. 0, and `end` is its length; or 18, `end` is 0, the
  * buffer has the lines that fit before the first that doesn't, and both tables have moved on as far as the call whose line didn't fit. 18 * 65536 bytes
- * hold every log. */
+ * hold every log (argued in crates/cascade/src/main.rt, not proved). */
 uint32_t lembuya_run(const uint8_t *text, size_t length, uint32_t plan[LEMBUYA_PLAN_CELLS], uint32_t cascade[LEMBUYA_CASCADE_CELLS], uint8_t *log,
                      size_t log_length, uint64_t end[1]);
 
