@@ -76,9 +76,9 @@ uint32_t lembuya_step(const uint32_t plan[LEMBUYA_PLAN_CELLS], uint32_t cascade[
 uint32_t lembuya_list(const uint32_t plan[LEMBUYA_PLAN_CELLS], uint32_t cascade[LEMBUYA_CASCADE_CELLS], const uint64_t *calls, size_t calls_length,
                       uint64_t *answers, size_t answers_length);
 
-/* The whole log of a text (plan and events, of which 65,536 bytes are looked at) into a buffer. 0, and `end` is its length; or 18, `end` is 0, the
- * buffer has the lines that fit before the first that doesn't, and both tables have moved on as far as the call whose line didn't fit. 18 * 65536 bytes
- * hold every log (argued in crates/cascade/src/main.rt, not proved). */
+/* The whole log of a text (plan and events, of which 65,536 bytes are looked at) into a buffer. 0, `end` is its length, and the tables are those behind
+ * the last event (a refused plan leaves them as they were); or 18, the log doesn't fit, and nothing is touched: not the buffer, the tables or `end`.
+ * 18 * 65536 bytes hold every log (proved: crates/logbook/proofs/LogLength.antt), and into so many a run is faster: a shorter buffer is measured first. */
 uint32_t lembuya_run(const uint8_t *text, size_t length, uint32_t plan[LEMBUYA_PLAN_CELLS], uint32_t cascade[LEMBUYA_CASCADE_CELLS], uint8_t *log,
                      size_t log_length, uint64_t end[1]);
 

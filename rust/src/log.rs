@@ -5,11 +5,10 @@ use crate::{ffi, safe, Short};
 /// How many bytes of a text are looked at; bytes behind these count as not there.
 pub const LONGEST_TEXT: usize = 65_536;
 
-/// No log is longer, in bytes.
+/// No log is longer, in bytes (proved).
 ///
 /// The most that a byte of a text can give is a blank line's refusal, `(refused 65536 1)` and its
-/// LF: 18 bytes. An event line has 10 bytes or more and gives at most a refusal of 19, or is a request
-/// of 15 or more and gives at most a grant of 50 and a rest of 25.
+/// LF: 18 bytes.
 pub const LONGEST_LOG: usize = 18 * LONGEST_TEXT;
 
 /// The log of a text, which holds a plan and events.
@@ -34,10 +33,12 @@ pub fn log(text: &[u8]) -> Vec<u8> {
 /// Writes the [log](log()) of a text into a lent buffer and gives its length. Bytes behind it are
 /// unchanged.
 ///
+/// Into a buffer shorter than [`LONGEST_LOG`] the text is run twice: whether the log fits has to be
+/// known first.
+///
 /// # Errors
 ///
-/// Row 18, where a line doesn't fit. The lines before it stand in the buffer, and the bytes behind
-/// these are unchanged.
+/// Row 18, where the log doesn't fit. No byte of the buffer is changed then.
 ///
 /// ```
 /// use lembuya::log_into;
@@ -73,16 +74,14 @@ mod tests {
     }
 
     #[test]
-    fn a_short_buffer_gets_the_lines_that_fit() {
+    fn a_short_buffer_is_left_as_it_was() {
         let text = format!("{PLAN}{EVENTS}");
         let mut buffer = vec![b'-'; LOG.len() + 1];
         assert_eq!(log_into(text.as_bytes(), &mut buffer), Ok(LOG.len()));
         assert_eq!(buffer, format!("{LOG}-").as_bytes());
         let mut buffer = vec![b'-'; LOG.len() - 1];
         assert_eq!(log_into(text.as_bytes(), &mut buffer), Err(Short));
-        let fits = LOG.len() - "(rest 119000 0)\n".len();
-        assert_eq!(buffer[..fits], LOG.as_bytes()[..fits]);
-        assert!(buffer[fits..].iter().all(|byte| *byte == b'-'));
+        assert!(buffer.iter().all(|byte| *byte == b'-'));
     }
 
     #[test]

@@ -8,7 +8,7 @@
 mod archive;
 
 use archive::{answer, five, on_all, setting, Archive, Fenced};
-use lembuya::ffi;
+use lembuya::{ffi, LONGEST_LOG};
 use reference::control::Control;
 use reference::fast::Fast;
 use reference::flat::Flat;
@@ -50,15 +50,18 @@ fn control(plan: &Plan) -> Hub<Control> {
 
 // Whole texts.
 
-/// Whether the archive writes the log expected, into a buffer that has some bytes more or none; or what is
-/// wrong.
+/// Whether the archive writes the log expected, into a buffer that has some bytes more or none, or that has
+/// room for every log, so that it isn't measured first; or what is wrong.
 fn writes(text: &[u8], expected: &[u8], last: bool) -> Result<(), String> {
     let mut lent = Fenced::new(text.len());
     let lent = lent.part(last, text.len());
     lent.copy_from_slice(text);
-    let spare = text.len() % 3 * 50;
-    let mut log = Fenced::new(expected.len() + spare);
-    let log = log.part(last, expected.len() + spare);
+    let length = match text.len() % 4 {
+        3 => LONGEST_LOG,
+        spare => expected.len() + spare * 50,
+    };
+    let mut log = Fenced::new(length);
+    let log = log.part(last, length);
     log.fill(FILL);
     let mut hub = Archive::blank(FILL_CELL, last);
     let (plan_table, cascade) = hub.tables();
@@ -579,28 +582,19 @@ fn every_shorter_buffer() {
                 let fits = length >= whole.len();
                 assert_eq!(
                     (number, end),
-                    if fits { (0, whole.len() as u64) } else { (18, 0) },
+                    if fits { (0, whole.len() as u64) } else { (18, u64::MAX) },
                     "length {length}"
                 );
-                let lines = if fits { whole.len() } else { whole_lines(&whole, length) };
-                assert!(buffer[..lines] == whole[..lines], "length {length}");
-                assert!(buffer[lines..].iter().all(|&byte| byte == filled), "length {length}");
+                let written = if fits { whole.len() } else { 0 };
+                assert!(buffer[..written] == whole[..written], "length {length}");
+                assert!(buffer[written..].iter().all(|&byte| byte == filled), "length {length}");
+                if !fits {
+                    let untouched = |cells: &[u32]| cells.iter().all(|&cell| cell == FILL_CELL);
+                    assert!(untouched(hub.plan()) && untouched(hub.cascade()), "length {length}");
+                }
             }
         }
     }
-}
-
-/// The length of the lines before the first that doesn't fit.
-fn whole_lines(log: &[u8], length: usize) -> usize {
-    log.split_inclusive(|&byte| byte == b'\n')
-        .map(<[u8]>::len)
-        .scan(0, |end, line| {
-            *end += line;
-            Some(*end)
-        })
-        .take_while(|&end| end <= length)
-        .last()
-        .unwrap_or(0)
 }
 
 #[test]
@@ -830,7 +824,7 @@ fn try_junk(seed: u64, found: &mut Found) {
     }
     assert!(*one.plan() == plan_before && *other.plan() == plan_before, "seed {seed}: the plan was changed");
     over_junk(seed, &mut random, one, other);
-    count(found, "calls", 5);
+    count(found, "calls", 6);
 }
 
 /// What takes the tables only to fill them: a plan read, a table made fresh, a run.
@@ -847,6 +841,11 @@ fn over_junk(seed: u64, random: &mut Random, mut one: Archive, mut other: Archiv
     let before = (*one.plan(), *one.cascade());
     let whole = log(text);
     let mut buffer = vec![FILL; whole.len()];
+    let short = random.place(whole.len());
+    let (plan_table, cascade) = one.tables();
+    assert_eq!(archive::run(text, plan_table, cascade, &mut buffer[..short]), (18, u64::MAX), "seed {seed}");
+    assert!(buffer.iter().all(|&byte| byte == FILL), "seed {seed}: a log that doesn't fit");
+    assert!(before == (*one.plan(), *one.cascade()), "seed {seed}: a log that doesn't fit leaves the tables");
     let (plan_table, cascade) = one.tables();
     let number = archive::run(text, plan_table, cascade, &mut buffer);
     assert!(number == (0, whole.len() as u64) && buffer == whole, "seed {seed}");

@@ -20,8 +20,7 @@ fn write_whole(text: &[u8], plan: &mut Plan, s: &mut Cascade, out: &mut [u8; 117
     write_log(text, plan, s, out);
 }
 
-// 18 times 65,536 bytes have room for every log: a line of one byte is refused by one of 18, `(refused 65482 1)` and LF. A refusal by two digits has 19, and
-// its event 10 at least. A request has 15 at least, and makes one grant and one rest, of 84 and 49 at most, counting 20 digits a time and a number of moves.
+// 18 times 65,536 bytes have room for every log: `log-bound` in crates/logbook/proofs/LogLength.antt.
 fn main() {
     let mut text = io::large_buffer();
     let n = io::read_full(STDIN_FILENO, &mut text);

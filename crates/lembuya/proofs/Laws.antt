@@ -1,6 +1,6 @@
 -- What the exports tell of an answer, by the case that the callee's answer is.
 use Prim.Native.Nat.{ℕ}
-use mathlib.Core.Path.{_≡_, sym, ap, _∙_}
+use mathlib.Core.Path.{_≡_, refl, sym, ap, _∙_}
 use mathlib.Core.List.{List}
 use native.Mathlib.Omega.{arith}
 use lib.ListN.{set}
@@ -8,7 +8,8 @@ use Rattle.plan.specs.declared.Answer.{Answer}
 use Rattle.plan.specs.declared.Answer.the-variants.{Taken, Refused}
 use Rattle.writer.specs.declared.Put.{Put}
 use Rattle.writer.specs.declared.Put.the-variants.{Behind, Short}
-use Rattle.writer.specs.Write.{putNumber}
+use Rattle.writer.specs.Write.{putNumber, putAnswer, putRow}
+use Rattle.writer.proofs.Writes.{put-told}
 use Rattle.state.specs.declared.Step.{Step}
 use Rattle.state.specs.Calls.{stepBy, stepAnswer, performBy}
 use Rattle.calls.specs.Table.{Six, sixOf, putSix}
@@ -44,18 +45,23 @@ stepped P t s answer e cells stored number =
 
 -- ---- a run
 
-pub behind-number : (z : ℕ) {x : Put} → Behind z ≡ x → putNumber x ≡ 0
-unfolding putNumber
-behind-number z e = ap putNumber (sym e)
+-- the number of an answer x, by whether the bytes fit
+module _ (d bytes : List ℕ) where
+  row-told : {x : Put} → x ≡ putAnswer d 0 bytes → putNumber x ≡ putRow d 0 bytes
+  row-told {x} e = put-told d 0 bytes x _ e refl .2
+
+  pub behind-number : (z : ℕ) → Behind z ≡ putAnswer d 0 bytes → putRow d 0 bytes ≡ 0
+  unfolding putNumber
+  behind-number z e = sym (row-told e)
+
+  pub short-number : Short ≡ putAnswer d 0 bytes → putRow d 0 bytes ≡ 18
+  unfolding putNumber
+  short-number e = sym (row-told e)
 
 pub behind-end : (end : List ℕ) (z : ℕ) {x : Put} → Behind z ≡ x → set end 0 z ≡ putEnd x end
 unfolding putEnd
 behind-end end z e = ap (λ (n : ℕ). set end 0 n) (omega arith) ∙ ap (λ (y : Put). putEnd y end) e
 
-pub short-number : {x : Put} → Short ≡ x → putNumber x ≡ 18
-unfolding putNumber
-short-number e = ap putNumber (sym e)
-
-pub short-end : (end : List ℕ) {x : Put} → Short ≡ x → set end 0 0 ≡ putEnd x end
+pub short-end : (end : List ℕ) {x : Put} → Short ≡ x → end ≡ putEnd x end
 unfolding putEnd
 short-end end e = ap (λ (y : Put). putEnd y end) e

@@ -17,7 +17,7 @@ unfoldable pub putTold : Answer → List ℕ → List ℕ
 putTold (Taken nodes hubs at line) s = set (set (set (set s 0 nodes) 1 hubs) 2 at) 3 line
 putTold (Refused line number) s = set (set (set (set s 0 0) 1 0) 2 0) 3 line
 
--- where a log ends; 0 where it didn't fit
+-- where a log ends; what was there where it didn't fit
 unfoldable pub putEnd : Put → List ℕ → List ℕ
 putEnd (Behind z) s = set s 0 z
-putEnd Short s = set s 0 0
+putEnd Short s = s

@@ -8,15 +8,14 @@ use writer::Put;
 ghost use mathlib.Core.Path.{_≡_};
 ghost use lib.ListN.{set};
 ghost use Rattle.rules.specs.Call.{ask, off, reserve, until, normal, high};
-ghost use Rattle.writer.specs.Write.{putNumber};
+ghost use Rattle.writer.specs.Write.{putAnswer, putBuffer, putRow};
 ghost use Rattle.plan.specs.Reading.{reading, leaves};
 ghost use Rattle.state.specs.Fresh.{freshCells};
 ghost use Rattle.state.specs.Calls.{EventPromise, stepBy, stepAnswer};
 ghost use Rattle.calls.specs.Table.{sixOf, putSix};
 ghost use Rattle.calls.specs.Promise.{ListPromise};
-ghost use Rattle.log.specs.Handed.{handed};
-ghost use Rattle.logbook.specs.Log.{logOf};
-ghost use Rattle.logbook.specs.Cells.{putLines, runBy};
+ghost use Rattle.logbook.specs.Log.{logBytes};
+ghost use Rattle.logbook.specs.Cells.{planLeft, cellsLeft};
 ghost use Rattle.lembuya.specs.Exports.{readNumber, putTold, putEnd};
 
 // What a plan's reader tells: nodes, hubs, where the events start and on which line.
@@ -151,20 +150,17 @@ pub extern "C" fn lembuya_run(
     log: &mut [u8],
     end: &mut [u64; 1],
 ) -> u32
-    ensures { λ r. ⌜ r ≡ putNumber (putLines (logOf (now (text .entry))) (now (log .entry)) 0 .put) ⌝ }
-    ensures { λ r. ⌜ now (log .exit) ≡ putLines (logOf (now (text .entry))) (now (log .entry)) 0 .buffer ⌝ }
-    ensures { λ r. ⌜ now (end .exit) ≡ putEnd (putLines (logOf (now (text .entry))) (now (log .entry)) 0 .put) (now (end .entry)) ⌝ }
-    ensures { λ r. ⌜ now (plan .exit) ≡ leaves (reading (handed (now (text .entry)))) (now (plan .entry)) ⌝ }
-    ensures { λ r. ⌜ now (s .exit) ≡ runBy (now (text .entry)) (now (s .entry)) (now (log .entry)) .cells ⌝ }
+    ensures { λ r. ⌜ r ≡ putRow (now (log .entry)) 0 (logBytes (now (text .entry))) ⌝ }
+    ensures { λ r. ⌜ now (log .exit) ≡ putBuffer (now (log .entry)) 0 (logBytes (now (text .entry))) ⌝ }
+    ensures { λ r. ⌜ now (end .exit) ≡ putEnd (putAnswer (now (log .entry)) 0 (logBytes (now (text .entry)))) (now (end .entry)) ⌝ }
+    ensures { λ r. ⌜ now (plan .exit) ≡ planLeft (now (text .entry)) (now (plan .entry)) (now (log .entry)) ⌝ }
+    ensures { λ r. ⌜ now (s .exit) ≡ cellsLeft (now (text .entry)) (now (s .entry)) (now (log .entry)) ⌝ }
 {
     match session::run(text, plan, s, log) {
         Put::Behind(z) => {
             end[0] = z as u64;
             0
         }
-        Put::Short => {
-            end[0] = 0;
-            18
-        }
+        Put::Short => 18,
     }
 }

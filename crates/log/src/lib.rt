@@ -4,7 +4,7 @@ use plan::Answer;
 use writer::Put;
 ghost use mathlib.Core.Path.{_≡_};
 ghost use lib.ListN.{length, take};
-ghost use Rattle.writer.specs.Write.{putAnswer, putBuffer, putNumber, putRow};
+ghost use Rattle.writer.specs.Write.{passBuffer, putAnswer, putNumber, putRow};
 ghost use Rattle.log.specs.Handed.{handed};
 ghost use Rattle.log.specs.FirstLine.{nodesHead, nodesLine, firstLine};
 
@@ -34,20 +34,20 @@ fn nodes_head(nodes: u32, head: &mut [u8; 32]) -> usize
     end
 }
 
-// `(nodes N hubs H)` and LF into the buffer from `at` on, or nothing.
-fn nodes_line(nodes: u32, hubs: u32, buffer: &mut [u8], at: usize) -> Put
-    ensures { λ r. ⌜ (r ≡ putAnswer (now (buffer .entry)) at (nodesLine nodes hubs)) × (now (buffer .exit) ≡ putBuffer (now (buffer .entry)) at (nodesLine nodes hubs)) × (putNumber r ≡ putRow (now (buffer .entry)) at (nodesLine nodes hubs)) ⌝ }
+// `(nodes N hubs H)` and LF into the buffer from `at` on, or nothing. Without `write` it is only measured.
+fn nodes_line(nodes: u32, hubs: u32, write: bool, buffer: &mut [u8], at: usize) -> Put
+    ensures { λ r. ⌜ (r ≡ putAnswer (now (buffer .entry)) at (nodesLine nodes hubs)) × (now (buffer .exit) ≡ passBuffer write (now (buffer .entry)) at (nodesLine nodes hubs)) × (putNumber r ≡ putRow (now (buffer .entry)) at (nodesLine nodes hubs)) ⌝ }
 {
     let mut head = [0u8; 32];
     let end = nodes_head(nodes, &mut head);
     let numbers = [hubs as u64];
-    writer::put_form(buffer, at, &head[..end], &numbers)
+    writer::put_form(write, buffer, at, &head[..end], &numbers)
 }
 
-// The line of a plan's answer into the buffer from `at` on, or nothing.
-pub fn first_line(answer: Answer, buffer: &mut [u8], at: usize) -> Put
+// The line of a plan's answer into the buffer from `at` on, or nothing. Without `write` it is only measured.
+pub fn first_line(answer: Answer, write: bool, buffer: &mut [u8], at: usize) -> Put
     ensures { λ r. ⌜ r ≡ putAnswer (now (buffer .entry)) at (firstLine answer) ⌝ }
-    ensures { λ r. ⌜ now (buffer .exit) ≡ putBuffer (now (buffer .entry)) at (firstLine answer) ⌝ }
+    ensures { λ r. ⌜ now (buffer .exit) ≡ passBuffer write (now (buffer .entry)) at (firstLine answer) ⌝ }
     ensures { λ r. ⌜ putNumber r ≡ putRow (now (buffer .entry)) at (firstLine answer) ⌝ }
 {
     match answer {
@@ -56,10 +56,10 @@ pub fn first_line(answer: Answer, buffer: &mut [u8], at: usize) -> Put
             hubs,
             at: _,
             line: _,
-        } => nodes_line(nodes, hubs, buffer, at),
+        } => nodes_line(nodes, hubs, write, buffer, at),
         Answer::Refused { line, number } => {
             let numbers = [line as u64, number as u64];
-            writer::put_form(buffer, at, b"(refused", &numbers)
+            writer::put_form(write, buffer, at, b"(refused", &numbers)
         }
     }
 }

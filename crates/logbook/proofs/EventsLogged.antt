@@ -28,12 +28,12 @@ use Rattle.logbook.proofs.Writing.{Writes, writes-none, writes-line, wr
 use Rattle.logbook.proofs.Leading.{Leads, Further, further}
 use Rattle.logbook.proofs.StepsLogged.{Logs, before-log}
 
-module _ (P : List ℕ) (R : Ready P) where
+module _ (write : Bool) (P : List ℕ) (R : Ready P) where
   -- an event with its answer, at most one line
   module _ (number : ℕ) (call : Call) (event : (s : List ℕ) → performBy P call s ≡ eventLeft P call s) where
     answer-log : (s : List ℕ) (h : Hub Control) → Leads P s h → (buffer : List ℕ) (at : ℕ)
-        → Writes (eventLine number (perform (planIn P) (control (planIn P)) call h .answer)) buffer at
-        (λ r. Leads P r (perform (planIn P) (control (planIn P)) call h .hub)) (callBy P number (some call) s buffer at)
+        → Writes write (eventLine number (perform (planIn P) (control (planIn P)) call h .answer)) buffer at
+        (λ r. Leads P r (perform (planIn P) (control (planIn P)) call h .hub)) (callBy write P number (some call) s buffer at)
     unfolding callBy numberBy cellsBy eventLeft
     answer-log s h leads buffer at =
         let f : Further P call s h = further P R call s h leads in
@@ -44,29 +44,29 @@ module _ (P : List ℕ) (R : Ready P) where
         rw (← e) (go (rowBy P call s) (eqb (rowBy P call s) 0) g)
       where
         go : (n : ℕ) (b : Bool) → Leads P (eventBy P call s) (perform (planIn P) (control (planIn P)) call h .hub)
-            → Writes (eventLine number (if b then Answer.taken else Answer.refused n)) buffer at
+            → Writes write (eventLine number (if b then Answer.taken else Answer.refused n)) buffer at
             (λ r. Leads P r (perform (planIn P) (control (planIn P)) call h .hub))
-            (if b then record { put = Behind at; cells = eventBy P call s; buffer = buffer } else line (refusedLine number n) (eventBy P call s) buffer at)
-        go n true g = writes-none buffer at _ (eventBy P call s) g
-        go n false g = writes-line buffer at _ (refusedLine number n) (eventBy P call s) g
+            (if b then record { put = Behind at; cells = eventBy P call s; buffer = buffer } else line write (refusedLine number n) (eventBy P call s) buffer at)
+        go n true g = writes-none write buffer at _ (eventBy P call s) g
+        go n false g = writes-line write buffer at _ (refusedLine number n) (eventBy P call s) g
 
     call-log : (s : List ℕ) (h : Hub Control) → Leads P s h → (buffer : List ℕ) (at : ℕ)
-        → Logs P (eventLog (planIn P) number (some call) h) buffer at (eventLineBy P number (some call) s buffer at)
+        → Logs write P (eventLog (planIn P) number (some call) h) buffer at (eventLineBy write P number (some call) s buffer at)
     unfolding eventLog eventLineBy beforeBy
     call-log s h leads buffer at =
         let before = stepsBefore (planIn P) (time call) h in
-        writes-on buffer at (λ r. Leads P r (before .hub)) _ (before .written)
+        writes-on write buffer at (λ r. Leads P r (before .hub)) _ (before .written)
         (eventLine number (perform (planIn P) (control (planIn P)) call (before .hub) .answer))
-        (stepsBy P (budgetBy s) (time call) s buffer at) (callBy P number (some call)) (before-log P R (time call) s h leads buffer at)
+        (stepsBy write P (budgetBy s) (time call) s buffer at) (callBy write P number (some call)) (before-log write P R (time call) s h leads buffer at)
         (λ r b z l. answer-log r (before .hub) l b z)
 
   no-form-log : (number : ℕ) (s : List ℕ) (h : Hub Control) → Leads P s h → (buffer : List ℕ) (at : ℕ)
-      → Logs P (eventLog (planIn P) number none h) buffer at (eventLineBy P number none s buffer at)
+      → Logs write P (eventLog (planIn P) number none h) buffer at (eventLineBy write P number none s buffer at)
   unfolding eventLog eventLineBy beforeBy callBy numberBy cellsBy
-  no-form-log number s h leads buffer at = writes-line buffer at _ (refusedLine number 1) s leads
+  no-form-log number s h leads buffer at = writes-line write buffer at _ (refusedLine number 1) s leads
 
   event-log : (number : ℕ) (e : Event) (s : List ℕ) (h : Hub Control) → Leads P s h → (buffer : List ℕ) (at : ℕ)
-      → Logs P (eventLog (planIn P) number (callOf e) h) buffer at (eventLineBy P number (callOf e) s buffer at)
+      → Logs write P (eventLog (planIn P) number (callOf e) h) buffer at (eventLineBy write P number (callOf e) s buffer at)
   unfolding performBy
   event-log number (Normal t k b) = call-log number (ask normal t k b) (λ s. refl)
   event-log number (High t k b) = call-log number (ask high t k b) (λ s. refl)
@@ -80,35 +80,35 @@ module _ (P : List ℕ) (R : Ready P) where
     abbrev EventsLog : ℕ → Type 0
     EventsLog left =
         (c : Cursor) → length text ≤ left + c .at → (s : List ℕ) (h : Hub Control) → Leads P s h → (buffer : List ℕ) (at : ℕ)
-        → Writes (eventsLog (planIn P) (c .number) h (lines (drop (c .at) text))) buffer at (λ r. Unit {0}) (eventsBy P text left c s buffer at)
+        → Writes write (eventsLog (planIn P) (c .number) h (lines (drop (c .at) text))) buffer at (λ r. Unit {0}) (eventsBy write P text left c s buffer at)
 
     no-line : EventsLog 0
     unfolding eventsBy eventsLog lines
-    no-line c enough s h leads buffer at = rw (drop-of-length-le text {i = c .at} (omega arith)) (writes-none buffer at _ s tt)
+    no-line c enough s h leads buffer at = rw (drop-of-length-le text {i = c .at} (omega arith)) (writes-none write buffer at _ s tt)
 
     -- the line at a cursor, and those behind it
     module _ (left : ℕ) (again : EventsLog left) (c : Cursor) (enough : length text ≤ suc left + c .at) where
       ended-log : (l : List ℕ) (rest : Lines) → First text c l rest → (s : List ℕ) (h : Hub Control) → Leads P s h → (buffer : List ℕ) (at : ℕ)
-          → Writes (eventsLog (planIn P) (c .number) h (ended l rest)) buffer at (λ r. Unit {0})
-          (nextBy P text (eventsBy P text left) (handOut c (ended l rest)) s buffer at)
+          → Writes write (eventsLog (planIn P) (c .number) h (ended l rest)) buffer at (λ r. Unit {0})
+          (nextBy write P text (eventsBy write P text left) (handOut c (ended l rest)) s buffer at)
       unfolding eventsLog handOut
       ended-log l rest f s h leads buffer at =
           let call = callOf (eventOf l) in
           let log = eventLog (planIn P) (c .number) call h in
           let next : Cursor = record { at = c .at + length l + 1; number = nextNumber (c .number) } in
           rw (f .bytes, ← (f .behind))
-          (writes-on buffer at (λ r. Leads P r (log .hub)) (λ r. Unit {0}) (log .written)
+          (writes-on write buffer at (λ r. Leads P r (log .hub)) (λ r. Unit {0}) (log .written)
           (eventsLog (planIn P) (next .number) (log .hub) (lines (drop (next .at) text)))
-          (eventLineBy P (c .number) call s buffer at) (eventsBy P text left next)
+          (eventLineBy write P (c .number) call s buffer at) (eventsBy write P text left next)
           (event-log (c .number) (eventOf l) s h leads buffer at)
           (λ r b z g. again next (omega arith) r (log .hub) g b z))
 
       next-log : (ls : Lines) → lines (drop (c .at) text) ≡ ls → (s : List ℕ) (h : Hub Control) → Leads P s h → (buffer : List ℕ) (at : ℕ)
-          → Writes (eventsLog (planIn P) (c .number) h ls) buffer at (λ r. Unit {0})
-          (nextBy P text (eventsBy P text left) (handOut c ls) s buffer at)
+          → Writes write (eventsLog (planIn P) (c .number) h ls) buffer at (λ r. Unit {0})
+          (nextBy write P text (eventsBy write P text left) (handOut c ls) s buffer at)
       unfolding eventsLog handOut
-      next-log nothing e s h leads buffer at = writes-none buffer at _ s tt
-      next-log (unended l) e s h leads buffer at = writes-line buffer at _ (refusedLine (c .number) 1) s tt
+      next-log nothing e s h leads buffer at = writes-none write buffer at _ s tt
+      next-log (unended l) e s h leads buffer at = writes-line write buffer at _ (refusedLine (c .number) 1) s tt
       next-log (ended l rest) e s h leads buffer at = ended-log l rest (first text c l rest e) s h leads buffer at
 
     one-line-more : (left : ℕ) → EventsLog left → EventsLog (suc left)

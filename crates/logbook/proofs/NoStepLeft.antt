@@ -31,7 +31,7 @@ use Rattle.rules.proofs.Clash.{clash}
 use Rattle.logbook.specs.Log.{stands, runs, budget, afterStep, steps}
 
 -- how many requests stand
-abbrev standings : Plan → Core → ℕ
+abbrev pub standings : Plan → Core → ℕ
 standings p s = sum (p .nodes) (λ k. stands (s .request k))
 
 turned-stands : (r : Share) (q : Request) → stands (turned r q) ≡ stands q
@@ -43,26 +43,28 @@ turned-stands r (standing high b) = go (eqb (r .packets) 0 || ltb (r .bits) b)
     go true = refl
     go false = refl
 
-advance-stands : (p : Plan) (t : ℕ) (s : Core) → standings p (advance p t s) ≡ standings p s
+pub advance-stands : (p : Plan) (t : ℕ) (s : Core) → standings p (advance p t s) ≡ standings p s
 advance-stands p t s = go (advanced p t s)
   where
     go : {r : Core} → Advanced p t s r → standings p r ≡ standings p s
     go (inside l) = refl
     go (across l) = sum-same (p .nodes) _ _ (λ k w. turned-stands (s .latest k) (s .request k))
 
--- a request that stands is one of them, and without it there is one fewer
-module _ (p : Plan) (s : Core) (k : ℕ) (w : Within (p .nodes) k) (c : Class) (b : ℕ) (e : s .request k ≡ standing c b) where
-  one-fewer : sum (p .nodes) (λ j. stands (put (s .request) k none j)) + 1 ≡ standings p s
-  one-fewer =
+-- one node's request changed
+module _ (p : Plan) (s : Core) (k : ℕ) (w : Within (p .nodes) k) where
+  pub put-stands : (q : Request) → sum (p .nodes) (λ j. stands (put (s .request) k q j)) + stands (s .request k) ≡ standings p s + stands q
+  put-stands q =
       let f : ℕ → ℕ = λ j. stands (s .request j) in
-      let q : sum (p .nodes) (put f k 0) + f k ≡ sum (p .nodes) f + 0 = sum-put (p .nodes) f k 0 w in
-      let r : f k ≡ 1 = ap stands e in
-      let same : sum (p .nodes) (λ j. stands (put (s .request) k none j)) ≡ sum (p .nodes) (put f k 0) = sum-same (p .nodes) _ _ (λ j h. there j (eqb j k)) in
-      omega arith
+      let same : sum (p .nodes) (λ j. stands (put (s .request) k q j)) ≡ sum (p .nodes) (put f k (stands q)) = sum-same (p .nodes) _ _ (λ j h. there j (eqb j k)) in
+      omega (arith, sum-put (p .nodes) f k (stands q) w)
     where
-      there : (j : ℕ) (x : Bool) → stands (if x then none else s .request j) ≡ (if x then 0 else stands (s .request j))
+      there : (j : ℕ) (x : Bool) → stands (if x then q else s .request j) ≡ (if x then stands q else stands (s .request j))
       there j true = refl
       there j false = refl
+
+  -- without a request that stands there is one fewer
+  pub one-fewer : (c : Class) (b : ℕ) → s .request k ≡ standing c b → sum (p .nodes) (λ j. stands (put (s .request) k none j)) + 1 ≡ standings p s
+  one-fewer c b e = let r : stands (s .request k) ≡ 1 = ap stands e in omega (arith, put-stands none)
 
 -- where the budget is 0 the line rests and nothing stands, so nothing is due
 module _ (p : Plan) (s : Core) (spent : budget p s ≤ 0) where

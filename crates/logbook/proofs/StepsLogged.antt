@@ -65,40 +65,40 @@ module _ (P : List ℕ) (t : ℕ) where
       go false = tt
 
 -- a run over cells writes the log's lines, and leaves cells that lead to its hub
-abbrev pub Logs : List ℕ → Logged → List ℕ → ℕ → Run → Type 0
-Logs P log buffer at r = Writes (log .written) buffer at (λ s. Leads P s (log .hub)) r
+abbrev pub Logs : Bool → List ℕ → Logged → List ℕ → ℕ → Run → Type 0
+Logs write P log buffer at r = Writes write (log .written) buffer at (λ s. Leads P s (log .hub)) r
 
 -- what follows a step's answer, where the steps behind it log
 module _
-    (P : List ℕ) (n t : ℕ) (h : Hub Control)
-    (again : (s b : List ℕ) (z : ℕ) → Leads P s h → Logs P (steps (planIn P) n t h) b z (stepsBy P n t s b z))
+    (write : Bool) (P : List ℕ) (n t : ℕ) (h : Hub Control)
+    (again : (s b : List ℕ) (z : ℕ) → Leads P s h → Logs write P (steps (planIn P) n t h) b z (stepsBy write P n t s b z))
     (buffer : List ℕ) (at : ℕ) (s : List ℕ) (leads : Leads P s h)
   where
     written : (l : List ℕ)
-        → Writes (l ∷ steps (planIn P) n t h .written) buffer at (λ r. Leads P r (steps (planIn P) n t h .hub)) (goingOn (stepsBy P n t) (line l s buffer at))
+        → Writes write (l ∷ steps (planIn P) n t h .written) buffer at (λ r. Leads P r (steps (planIn P) n t h .hub)) (goingOn (stepsBy write P n t) (line write l s buffer at))
     written l =
-        writes-on buffer at (λ r. Leads P r h) _ (l ∷ []) (steps (planIn P) n t h .written) (line l s buffer at) (stepsBy P n t)
-        (writes-line buffer at _ l s leads) again
+        writes-on write buffer at (λ r. Leads P r h) _ (l ∷ []) (steps (planIn P) n t h .written) (line write l s buffer at) (stepsBy write P n t)
+        (writes-line write buffer at _ l s leads) again
 
     after : (a : Step) → Numbered a
-        → Logs P (afterStep (planIn P) (steps (planIn P) n t) (stepAnswer a) h) buffer at
-        (if more a then goingOn (stepsBy P n t) (line (stepLine a) s buffer at) else record { put = Behind at; cells = s; buffer = buffer })
+        → Logs write P (afterStep (planIn P) (steps (planIn P) n t) (stepAnswer a) h) buffer at
+        (if more a then goingOn (stepsBy write P n t) (line write (stepLine a) s buffer at) else record { put = Behind at; cells = s; buffer = buffer })
     unfolding stepAnswer stepLine answerLine
     after (Grant d k class end moves) e = rw e (written (grantLine d k class end moves))
     after (Rest d moves) e = written (restLine d moves)
-    after Quiet e = writes-none buffer at _ s leads
-    after (Refused m) e = writes-none buffer at _ s leads
+    after Quiet e = writes-none write buffer at _ s leads
+    after (Refused m) e = writes-none write buffer at _ s leads
 
-module _ (P : List ℕ) (R : Ready P) (t : ℕ) where
+module _ (write : Bool) (P : List ℕ) (R : Ready P) (t : ℕ) where
   -- at most n steps log, from all cells that lead to a hub
   abbrev StepsLog : ℕ → Type 0
   StepsLog n =
       (s : List ℕ) (h : Hub Control) → Leads P s h → (buffer : List ℕ) (at : ℕ)
-      → Logs P (steps (planIn P) n t h) buffer at (stepsBy P n t s buffer at)
+      → Logs write P (steps (planIn P) n t h) buffer at (stepsBy write P n t s buffer at)
 
   no-step : StepsLog 0
   unfolding steps stepsBy
-  no-step s h leads buffer at = writes-none buffer at _ s leads
+  no-step s h leads buffer at = writes-none write buffer at _ s leads
 
   one-more : (n : ℕ) → StepsLog n → StepsLog (suc n)
   unfolding steps stepsBy performBy
@@ -106,7 +106,7 @@ module _ (P : List ℕ) (R : Ready P) (t : ℕ) where
       let f = further P R (step t) s h leads in
       let o = perform (planIn P) (control (planIn P)) (step t) h in
       rw (← (f .answer))
-      (after P n t (o .hub) (λ r b z l. again r (o .hub) l b z) buffer at (stepBy P t s .cells) (f .leads) (stepBy P t s .answer) (step-numbered P t s))
+      (after write P n t (o .hub) (λ r b z l. again r (o .hub) l b z) buffer at (stepBy P t s .cells) (f .leads) (stepBy P t s .answer) (step-numbered P t s))
 
   pub steps-log : (n : ℕ) → StepsLog n
   steps-log zero = no-step
@@ -126,7 +126,7 @@ before-steps p t h = go (which (row11 (h .core) t .applies))
     go (yes′ e) = rw e (sym (late-steps p (budget p (h .core)) t h e))
     go (no′ e) = rw e
 
-pub before-log : (P : List ℕ) → Ready P → (t : ℕ) (s : List ℕ) (h : Hub Control) → Leads P s h → (buffer : List ℕ) (at : ℕ)
-    → Logs P (stepsBefore (planIn P) t h) buffer at (stepsBy P (budgetBy s) t s buffer at)
-before-log P R t s h leads buffer at =
-    rw (before-steps (planIn P) t h, same-budget P R s h leads) (steps-log P R t (budget (planIn P) (h .core)) s h leads buffer at)
+pub before-log : (write : Bool) (P : List ℕ) → Ready P → (t : ℕ) (s : List ℕ) (h : Hub Control) → Leads P s h → (buffer : List ℕ) (at : ℕ)
+    → Logs write P (stepsBefore (planIn P) t h) buffer at (stepsBy write P (budgetBy s) t s buffer at)
+before-log write P R t s h leads buffer at =
+    rw (before-steps (planIn P) t h, same-budget P R s h leads) (steps-log write P R t (budget (planIn P) (h .core)) s h leads buffer at)

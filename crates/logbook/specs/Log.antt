@@ -1,7 +1,7 @@
 -- "The log": the lines that the program writes for a text.
 use Prim.Native.Nat.{ℕ, zero, suc, _+_, _*_}
 use mathlib.Core.Bool.{Bool, true, false}
-use mathlib.Core.List.{List, [], _∷_, _++_}
+use mathlib.Core.List.{List, [], _∷_, _++_, flatten}
 use mathlib.Core.Option.{Option, none, some}
 use lib.ListN.{drop}
 use Rattle.text.specs.Line.{Lines, nothing, unended, ended, lines, nextNumber}
@@ -101,3 +101,7 @@ unfoldable pub logOf : List ℕ → List (List ℕ)
 logOf text =
     let r = reading (handed text) in
     planLog (handed text) (r .answer) (r .tables)
+
+-- the same as bytes
+unfoldable pub logBytes : List ℕ → List ℕ
+logBytes text = flatten (logOf text)

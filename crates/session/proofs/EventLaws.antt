@@ -1,6 +1,7 @@
 -- The run of an event line and of all of them, by what each call answered.
 use Prim.Native.Nat.{ℕ, suc, _-_, _<_}
 use mathlib.Core.Path.{_≡_, refl, sym, ap, _∙_}
+use mathlib.Core.Bool.{Bool}
 use mathlib.Core.List.{List, [], _∷_}
 use mathlib.Core.Logic.{_⊎_, ⊎-elim}
 use mathlib.Core.Option.{Option, none, some}
@@ -14,7 +15,7 @@ use Rattle.text.specs.Line.{nextLine}
 use Rattle.text.specs.declared.Cursor.{Cursor}
 use Rattle.text.specs.declared.Next.{Next}
 use Rattle.text.specs.declared.Next.the-variants.{Line, Unended, Done}
-use Rattle.writer.specs.Write.{putAnswer, putBuffer}
+use Rattle.writer.specs.Write.{putAnswer, passBuffer}
 use Rattle.writer.specs.declared.Put.{Put}
 use Rattle.writer.specs.declared.Put.the-variants.{Behind, Short}
 use Rattle.log.specs.FirstLine.{refusedLine}
@@ -39,9 +40,10 @@ module _ (P : List ℕ) where
     unfolding numberBy cellsBy
     none-made q = rw q (refl, refl)
 
+module _ (write : Bool) (P : List ℕ) where
   -- the steps before an event; tag 5 is a line that is none
   event-steps : (e : Event) → OneOf (0 ∷ 1 ∷ 2 ∷ 3 ∷ 4 ∷ []) (tagOf the-type e) → (s b : List ℕ) (at : ℕ)
-      → beforeBy P (callOf e) s b at ≡ stepsBy P (budgetBy s) (timeOf (callOf e)) s b at
+      → beforeBy write P (callOf e) s b at ≡ stepsBy write P (budgetBy s) (timeOf (callOf e)) s b at
   unfolding beforeBy
   event-steps (Normal t k b′) q s b at = refl
   event-steps (High t k b′) q s b at = refl
@@ -52,74 +54,74 @@ module _ (P : List ℕ) where
       absurd (⊎-elim (λ e. omega arith) (⊎-elim (λ e. omega arith) (⊎-elim (λ e. omega arith) (⊎-elim (λ e. omega arith) (λ e. omega arith)))) q)
 
   module _ (e : Event) (s b : List ℕ) (at : ℕ) where
-    pub before-none : e ≡ NoEvent → Ran (beforeBy P (callOf e) s b at) (Behind at) s b
+    pub before-none : e ≡ NoEvent → Ran (beforeBy write P (callOf e) s b at) (Behind at) s b
     unfolding beforeBy
     before-none q = rw q (refl, (refl, refl))
 
     pub before-event : OneOf (0 ∷ 1 ∷ 2 ∷ 3 ∷ 4 ∷ []) (tagOf the-type e) → {left t : ℕ} → left ≡ budgetBy s → t ≡ timeOf (callOf e)
-        → {r : Put} {s′ b′ : List ℕ} → Ran (stepsBy P left t s b at) r s′ b′ → Ran (beforeBy P (callOf e) s b at) r s′ b′
+        → {r : Put} {s′ b′ : List ℕ} → Ran (stepsBy write P left t s b at) r s′ b′ → Ran (beforeBy write P (callOf e) s b at) r s′ b′
     before-event q l w x = ran-same (event-steps e q s b at) (rw (l, w) at x)
 
   -- the event itself, by its number
   module _ (number : ℕ) (call : Option Call) (s b : List ℕ) (at : ℕ) {row : ℕ} {s′ : List ℕ} (r : row ≡ numberBy P call s) (c : s′ ≡ cellsBy P call s) where
-    pub call-taken : row ≡ 0 → Ran (callBy P number call s b at) (Behind at) s′ b
+    pub call-taken : row ≡ 0 → Ran (callBy write P number call s b at) (Behind at) s′ b
     unfolding callBy
     call-taken e = rw (eq-eqb (numberBy P call s) 0 (sym r ∙ e)) (refl, (c, refl))
 
-    pub call-refused : (row ≡ 0 → ⊥) → {put : Put} {b′ : List ℕ} → put ≡ putAnswer b at (refusedLine number row) → b′ ≡ putBuffer b at (refusedLine number row)
-        → Ran (callBy P number call s b at) put s′ b′
+    pub call-refused : (row ≡ 0 → ⊥) → {put : Put} {b′ : List ℕ} → put ≡ putAnswer b at (refusedLine number row) → b′ ≡ passBuffer write b at (refusedLine number row)
+        → Ran (callBy write P number call s b at) put s′ b′
     unfolding callBy
     call-refused e {put} {b′} p w =
         let n : numberBy P call s ≡ 0 → ⊥ = λ z. e (r ∙ z) in
         rw (ne-eqb (numberBy P call s) 0 n, ← r) (p, (c, w))
 
   -- an event line: the steps before it, then the event
-  module _ (number : ℕ) (call : Option Call) (s b : List ℕ) (at : ℕ) {put : Put} {s′ b′ : List ℕ} (before : Ran (beforeBy P call s b at) put s′ b′) where
-    pub line-on : (z : ℕ) → put ≡ Behind z → {r : Put} {s″ b″ : List ℕ} → Ran (callBy P number call s′ b′ z) r s″ b″ → Ran (eventLineBy P number call s b at) r s″ b″
+  module _ (number : ℕ) (call : Option Call) (s b : List ℕ) (at : ℕ) {put : Put} {s′ b′ : List ℕ} (before : Ran (beforeBy write P call s b at) put s′ b′) where
+    pub line-on : (z : ℕ) → put ≡ Behind z → {r : Put} {s″ b″ : List ℕ} → Ran (callBy write P number call s′ b′ z) r s″ b″ → Ran (eventLineBy write P number call s b at) r s″ b″
     unfolding eventLineBy
-    line-on z e x = onward (callBy P number call) (beforeBy P call s b at) before z e x
+    line-on z e x = onward (callBy write P number call) (beforeBy write P call s b at) before z e x
 
-    pub line-short : put ≡ Short → Ran (eventLineBy P number call s b at) Short s′ b′
+    pub line-short : put ≡ Short → Ran (eventLineBy write P number call s b at) Short s′ b′
     unfolding eventLineBy
-    line-short e = halted (callBy P number call) (beforeBy P call s b at) before e
+    line-short e = halted (callBy write P number call) (beforeBy write P call s b at) before e
 
   -- the lines from a cursor on, by the line there
   module _ (text : List ℕ) (left : ℕ) (c : Cursor) (s b : List ℕ) (at : ℕ) where
-    pub no-turn : left ≡ 0 → Ran (eventsBy P text left c s b at) (Behind at) s b
+    pub no-turn : left ≡ 0 → Ran (eventsBy write P text left c s b at) (Behind at) s b
     unfolding eventsBy
-    no-turn e = ran-same (ap (λ (n : ℕ). eventsBy P text n c s b at) e) (refl, (refl, refl))
+    no-turn e = ran-same (ap (λ (n : ℕ). eventsBy write P text n c s b at) e) (refl, (refl, refl))
 
     module _ (more : 0 < left) {n : Next} (found : n ≡ nextLine text c) where
-      turn : eventsBy P text left c s b at ≡ nextBy P text (eventsBy P text (left - 1)) n s b at
+      turn : eventsBy write P text left c s b at ≡ nextBy write P text (eventsBy write P text (left - 1)) n s b at
       unfolding eventsBy
       turn =
           let e : left ≡ suc (left - 1) = omega arith in
-          ap (λ (n : ℕ). eventsBy P text n c s b at) e ∙ ap (λ (x : Next). nextBy P text (eventsBy P text (left - 1)) x s b at) (sym found)
+          ap (λ (n : ℕ). eventsBy write P text n c s b at) e ∙ ap (λ (x : Next). nextBy write P text (eventsBy write P text (left - 1)) x s b at) (sym found)
 
-      pub all-done : (number : ℕ) → n ≡ Done number → Ran (eventsBy P text left c s b at) (Behind at) s b
+      pub all-done : (number : ℕ) → n ≡ Done number → Ran (eventsBy write P text left c s b at) (Behind at) s b
       all-done number e =
-          ran-same (turn ∙ ap (λ (x : Next). nextBy P text (eventsBy P text (left - 1)) x s b at) e) (refl, (refl, refl))
+          ran-same (turn ∙ ap (λ (x : Next). nextBy write P text (eventsBy write P text (left - 1)) x s b at) e) (refl, (refl, refl))
 
       pub last-unended : (start end number : ℕ) → n ≡ Unended start end number
-          → {put : Put} {b′ : List ℕ} → put ≡ putAnswer b at (refusedLine number 1) → b′ ≡ putBuffer b at (refusedLine number 1)
-          → Ran (eventsBy P text left c s b at) put s b′
+          → {put : Put} {b′ : List ℕ} → put ≡ putAnswer b at (refusedLine number 1) → b′ ≡ passBuffer write b at (refusedLine number 1)
+          → Ran (eventsBy write P text left c s b at) put s b′
       last-unended start end number e p w =
-          ran-same (turn ∙ ap (λ (x : Next). nextBy P text (eventsBy P text (left - 1)) x s b at) e) (p, (refl, w))
+          ran-same (turn ∙ ap (λ (x : Next). nextBy write P text (eventsBy write P text (left - 1)) x s b at) e) (p, (refl, w))
 
       module _ (start end number : ℕ) (next : Cursor) (e : n ≡ Line start end number next)
           {event : Event} (h : event ≡ eventOf (part text start end))
-          {put : Put} {s′ b′ : List ℕ} (went : Ran (eventLineBy P number (callOf event) s b at) put s′ b′) where
-        went-same : Ran (eventLineBy P number (callOf (eventOf (part text start end))) s b at) put s′ b′
+          {put : Put} {s′ b′ : List ℕ} (went : Ran (eventLineBy write P number (callOf event) s b at) put s′ b′) where
+        went-same : Ran (eventLineBy write P number (callOf (eventOf (part text start end))) s b at) put s′ b′
         went-same = rw (← h) went
 
-        turned : eventsBy P text left c s b at ≡ goingOn (eventsBy P text (left - 1) next) (eventLineBy P number (callOf (eventOf (part text start end))) s b at)
-        turned = turn ∙ ap (λ (x : Next). nextBy P text (eventsBy P text (left - 1)) x s b at) e
+        turned : eventsBy write P text left c s b at ≡ goingOn (eventsBy write P text (left - 1) next) (eventLineBy write P number (callOf (eventOf (part text start end))) s b at)
+        turned = turn ∙ ap (λ (x : Next). nextBy write P text (eventsBy write P text (left - 1)) x s b at) e
 
-        pub turn-short : put ≡ Short → Ran (eventsBy P text left c s b at) Short s′ b′
+        pub turn-short : put ≡ Short → Ran (eventsBy write P text left c s b at) Short s′ b′
         turn-short q =
-            ran-same turned (halted (eventsBy P text (left - 1) next) (eventLineBy P number (callOf (eventOf (part text start end))) s b at) went-same q)
+            ran-same turned (halted (eventsBy write P text (left - 1) next) (eventLineBy write P number (callOf (eventOf (part text start end))) s b at) went-same q)
 
-        pub turn-on : (z : ℕ) → put ≡ Behind z → eventsBy P text left c s b at ≡ eventsBy P text (left - 1) next s′ b′ z
+        pub turn-on : (z : ℕ) → put ≡ Behind z → eventsBy write P text left c s b at ≡ eventsBy write P text (left - 1) next s′ b′ z
         turn-on z q =
             turned
-            ∙ onto (eventsBy P text (left - 1) next) (eventLineBy P number (callOf (eventOf (part text start end))) s b at) went-same z q
+            ∙ onto (eventsBy write P text (left - 1) next) (eventLineBy write P number (callOf (eventOf (part text start end))) s b at) went-same z q

@@ -1,6 +1,6 @@
--- For the programs: what a run writes lies within the buffer (Within). The others are the laws that the functions' proofs cite.
-pub mod Within
+-- The laws that the functions' proofs cite.
 mod Ran
 mod StepLaws
 mod EventLaws
 mod WholeLaws
+mod TwoPasses

@@ -1,5 +1,5 @@
-// The run over one text: the plan is read, then each event behind all steps strictly before it, and the log is written into a lent buffer.
-// `run` has no `requires`: what it writes is one definition of the whole log of a text, `logbook`'s specs/Log.antt.
+// The run over one text: the plan is read, then each event behind all steps strictly before it, and the log is written into a lent buffer, all of it or
+// nothing. `run` has no `requires`: what it writes is one definition of the whole log of a text, `logbook`'s specs/Log.antt.
 use events::Event;
 use plan::Answer;
 use plan::Plan;
@@ -16,9 +16,10 @@ ghost use lib.ListN.{length};
 ghost use Rattle.plan.specs.Reading.{reading, leaves};
 ghost use Rattle.events.specs.Event.{callOf};
 ghost use Rattle.log.specs.Handed.{handed};
-ghost use Rattle.logbook.specs.Cells.{more, stepsBy, numberBy, cellsBy, budgetBy, beforeBy, callBy, eventLineBy, eventsBy, behindPlan, runBy, putLines};
+ghost use Rattle.logbook.specs.Cells.{more, stepsBy, numberBy, cellsBy, budgetBy, beforeBy, callBy, eventLineBy, eventsBy, behindPlan, passBy, planLeft, cellsLeft};
 ghost use Rattle.session.specs.Times.{timeOf};
-ghost use Rattle.logbook.specs.Log.{logOf};
+ghost use Rattle.logbook.specs.Log.{logBytes};
+ghost use Rattle.writer.specs.Write.{fits, putAnswer, putBuffer};
 
 // Whether more steps may follow a step's answer.
 fn goes_on(a: Step) -> bool
@@ -38,11 +39,19 @@ fn goes_on(a: Step) -> bool
     }
 }
 
-// At most `left` steps with bound t, each with its line.
-fn steps(p: &Plan, s: &mut Cascade, left: u64, t: u64, buffer: &mut [u8], at: usize) -> Put
-    ensures { λ r. ⌜ r ≡ stepsBy (now (p .entry)) left t (now (s .entry)) (now (buffer .entry)) at .put ⌝ }
-    ensures { λ r. ⌜ now (s .exit) ≡ stepsBy (now (p .entry)) left t (now (s .entry)) (now (buffer .entry)) at .cells ⌝ }
-    ensures { λ r. ⌜ now (buffer .exit) ≡ stepsBy (now (p .entry)) left t (now (s .entry)) (now (buffer .entry)) at .buffer ⌝ }
+// At most `left` steps with bound t, each with its line; `write` says whether lines are written or only measured.
+fn steps(
+    p: &Plan,
+    s: &mut Cascade,
+    left: u64,
+    t: u64,
+    write: bool,
+    buffer: &mut [u8],
+    at: usize,
+) -> Put
+    ensures { λ r. ⌜ r ≡ stepsBy write (now (p .entry)) left t (now (s .entry)) (now (buffer .entry)) at .put ⌝ }
+    ensures { λ r. ⌜ now (s .exit) ≡ stepsBy write (now (p .entry)) left t (now (s .entry)) (now (buffer .entry)) at .cells ⌝ }
+    ensures { λ r. ⌜ now (buffer .exit) ≡ stepsBy write (now (p .entry)) left t (now (s .entry)) (now (buffer .entry)) at .buffer ⌝ }
 {
     if left == 0 {
         return Put::Behind(at);
@@ -51,8 +60,8 @@ fn steps(p: &Plan, s: &mut Cascade, left: u64, t: u64, buffer: &mut [u8], at: us
     if !goes_on(a) {
         return Put::Behind(at);
     }
-    match lines::step_line(a, buffer, at) {
-        Put::Behind(z) => steps(p, s, left - 1, t, buffer, z),
+    match lines::step_line(a, write, buffer, at) {
+        Put::Behind(z) => steps(p, s, left - 1, t, write, buffer, z),
         Put::Short => Put::Short,
     }
 }
@@ -109,29 +118,37 @@ fn time_of(e: Event) -> u64
 }
 
 // All steps before an event.
-fn before(p: &Plan, s: &mut Cascade, e: Event, buffer: &mut [u8], at: usize) -> Put
-    ensures { λ r. ⌜ r ≡ beforeBy (now (p .entry)) (callOf e) (now (s .entry)) (now (buffer .entry)) at .put ⌝ }
-    ensures { λ r. ⌜ now (s .exit) ≡ beforeBy (now (p .entry)) (callOf e) (now (s .entry)) (now (buffer .entry)) at .cells ⌝ }
-    ensures { λ r. ⌜ now (buffer .exit) ≡ beforeBy (now (p .entry)) (callOf e) (now (s .entry)) (now (buffer .entry)) at .buffer ⌝ }
+fn before(p: &Plan, s: &mut Cascade, e: Event, write: bool, buffer: &mut [u8], at: usize) -> Put
+    ensures { λ r. ⌜ r ≡ beforeBy write (now (p .entry)) (callOf e) (now (s .entry)) (now (buffer .entry)) at .put ⌝ }
+    ensures { λ r. ⌜ now (s .exit) ≡ beforeBy write (now (p .entry)) (callOf e) (now (s .entry)) (now (buffer .entry)) at .cells ⌝ }
+    ensures { λ r. ⌜ now (buffer .exit) ≡ beforeBy write (now (p .entry)) (callOf e) (now (s .entry)) (now (buffer .entry)) at .buffer ⌝ }
 {
     if let Event::NoEvent = e {
         return Put::Behind(at);
     }
     let left = budget(s);
-    steps(p, s, left, time_of(e), buffer, at)
+    steps(p, s, left, time_of(e), write, buffer, at)
 }
 
 // The event, with its line where it is refused.
-fn call(p: &Plan, s: &mut Cascade, number: usize, e: Event, buffer: &mut [u8], at: usize) -> Put
-    ensures { λ r. ⌜ r ≡ callBy (now (p .entry)) number (callOf e) (now (s .entry)) (now (buffer .entry)) at .put ⌝ }
-    ensures { λ r. ⌜ now (s .exit) ≡ callBy (now (p .entry)) number (callOf e) (now (s .entry)) (now (buffer .entry)) at .cells ⌝ }
-    ensures { λ r. ⌜ now (buffer .exit) ≡ callBy (now (p .entry)) number (callOf e) (now (s .entry)) (now (buffer .entry)) at .buffer ⌝ }
+fn call(
+    p: &Plan,
+    s: &mut Cascade,
+    number: usize,
+    e: Event,
+    write: bool,
+    buffer: &mut [u8],
+    at: usize,
+) -> Put
+    ensures { λ r. ⌜ r ≡ callBy write (now (p .entry)) number (callOf e) (now (s .entry)) (now (buffer .entry)) at .put ⌝ }
+    ensures { λ r. ⌜ now (s .exit) ≡ callBy write (now (p .entry)) number (callOf e) (now (s .entry)) (now (buffer .entry)) at .cells ⌝ }
+    ensures { λ r. ⌜ now (buffer .exit) ≡ callBy write (now (p .entry)) number (callOf e) (now (s .entry)) (now (buffer .entry)) at .buffer ⌝ }
 {
     let row = make(p, s, e);
     if row == 0 {
         return Put::Behind(at);
     }
-    lines::refused_line(number as u64, row, buffer, at)
+    lines::refused_line(number as u64, row, write, buffer, at)
 }
 
 // One event line.
@@ -140,24 +157,33 @@ fn event_line(
     s: &mut Cascade,
     number: usize,
     e: Event,
+    write: bool,
     buffer: &mut [u8],
     at: usize,
 ) -> Put
-    ensures { λ r. ⌜ r ≡ eventLineBy (now (p .entry)) number (callOf e) (now (s .entry)) (now (buffer .entry)) at .put ⌝ }
-    ensures { λ r. ⌜ now (s .exit) ≡ eventLineBy (now (p .entry)) number (callOf e) (now (s .entry)) (now (buffer .entry)) at .cells ⌝ }
-    ensures { λ r. ⌜ now (buffer .exit) ≡ eventLineBy (now (p .entry)) number (callOf e) (now (s .entry)) (now (buffer .entry)) at .buffer ⌝ }
+    ensures { λ r. ⌜ r ≡ eventLineBy write (now (p .entry)) number (callOf e) (now (s .entry)) (now (buffer .entry)) at .put ⌝ }
+    ensures { λ r. ⌜ now (s .exit) ≡ eventLineBy write (now (p .entry)) number (callOf e) (now (s .entry)) (now (buffer .entry)) at .cells ⌝ }
+    ensures { λ r. ⌜ now (buffer .exit) ≡ eventLineBy write (now (p .entry)) number (callOf e) (now (s .entry)) (now (buffer .entry)) at .buffer ⌝ }
 {
-    match before(p, s, e, buffer, at) {
-        Put::Behind(z) => call(p, s, number, e, buffer, z),
+    match before(p, s, e, write, buffer, at) {
+        Put::Behind(z) => call(p, s, number, e, write, buffer, z),
         Put::Short => Put::Short,
     }
 }
 
 // The event lines from a cursor on. `left` is more than there are lines, so the loop ends at the text's end.
-fn events(text: &[u8], p: &Plan, s: &mut Cascade, c: Cursor, buffer: &mut [u8], at: usize) -> Put
-    ensures { λ r. ⌜ r ≡ eventsBy (now (p .entry)) (now (text .entry)) (suc (length (now (text .entry)))) c (now (s .entry)) (now (buffer .entry)) at .put ⌝ }
-    ensures { λ r. ⌜ now (s .exit) ≡ eventsBy (now (p .entry)) (now (text .entry)) (suc (length (now (text .entry)))) c (now (s .entry)) (now (buffer .entry)) at .cells ⌝ }
-    ensures { λ r. ⌜ now (buffer .exit) ≡ eventsBy (now (p .entry)) (now (text .entry)) (suc (length (now (text .entry)))) c (now (s .entry)) (now (buffer .entry)) at .buffer ⌝ }
+fn events(
+    text: &[u8],
+    p: &Plan,
+    s: &mut Cascade,
+    c: Cursor,
+    write: bool,
+    buffer: &mut [u8],
+    at: usize,
+) -> Put
+    ensures { λ r. ⌜ r ≡ eventsBy write (now (p .entry)) (now (text .entry)) (suc (length (now (text .entry)))) c (now (s .entry)) (now (buffer .entry)) at .put ⌝ }
+    ensures { λ r. ⌜ now (s .exit) ≡ eventsBy write (now (p .entry)) (now (text .entry)) (suc (length (now (text .entry)))) c (now (s .entry)) (now (buffer .entry)) at .cells ⌝ }
+    ensures { λ r. ⌜ now (buffer .exit) ≡ eventsBy write (now (p .entry)) (now (text .entry)) (suc (length (now (text .entry)))) c (now (s .entry)) (now (buffer .entry)) at .buffer ⌝ }
 {
     let mut left = text.len() + 1;
     let mut place = c.at;
@@ -176,7 +202,7 @@ fn events(text: &[u8], p: &Plan, s: &mut Cascade, c: Cursor, buffer: &mut [u8], 
                 next,
             } => {
                 let e = events::event_at(text, start, end);
-                match event_line(p, s, number, e, buffer, z) {
+                match event_line(p, s, number, e, write, buffer, z) {
                     Put::Behind(y) => z = y,
                     Put::Short => return Put::Short,
                 }
@@ -187,7 +213,7 @@ fn events(text: &[u8], p: &Plan, s: &mut Cascade, c: Cursor, buffer: &mut [u8], 
                 start: _,
                 end: _,
                 number,
-            } => return lines::refused_line(number as u64, 1, buffer, z),
+            } => return lines::refused_line(number as u64, 1, write, buffer, z),
             Next::Done { number: _ } => return Put::Behind(z),
         }
         left -= 1;
@@ -201,12 +227,13 @@ fn behind_plan(
     answer: Answer,
     p: &Plan,
     s: &mut Cascade,
+    write: bool,
     buffer: &mut [u8],
     at: usize,
 ) -> Put
-    ensures { λ r. ⌜ r ≡ behindPlan (now (text .entry)) answer (now (p .entry)) (now (s .entry)) (now (buffer .entry)) at .put ⌝ }
-    ensures { λ r. ⌜ now (s .exit) ≡ behindPlan (now (text .entry)) answer (now (p .entry)) (now (s .entry)) (now (buffer .entry)) at .cells ⌝ }
-    ensures { λ r. ⌜ now (buffer .exit) ≡ behindPlan (now (text .entry)) answer (now (p .entry)) (now (s .entry)) (now (buffer .entry)) at .buffer ⌝ }
+    ensures { λ r. ⌜ r ≡ behindPlan write (now (text .entry)) answer (now (p .entry)) (now (s .entry)) (now (buffer .entry)) at .put ⌝ }
+    ensures { λ r. ⌜ now (s .exit) ≡ behindPlan write (now (text .entry)) answer (now (p .entry)) (now (s .entry)) (now (buffer .entry)) at .cells ⌝ }
+    ensures { λ r. ⌜ now (buffer .exit) ≡ behindPlan write (now (text .entry)) answer (now (p .entry)) (now (s .entry)) (now (buffer .entry)) at .buffer ⌝ }
 {
     match answer {
         Answer::Taken {
@@ -220,24 +247,54 @@ fn behind_plan(
                 at: place,
                 number: line,
             };
-            events(text, p, s, c, buffer, at)
+            events(text, p, s, c, write, buffer, at)
         }
         Answer::Refused { line: _, number: _ } => Put::Behind(at),
     }
 }
 
-// The whole log of a text into a lent buffer: the place behind it, or Short at the first line that doesn't fit. A taken plan's tables stand in `plan`, and
-// the cascade's in `s`; a refused plan leaves both as they were.
-pub fn run(text: &[u8], plan: &mut Plan, s: &mut Cascade, buffer: &mut [u8]) -> Put
-    ensures { λ r. ⌜ r ≡ putLines (logOf (now (text .entry))) (now (buffer .entry)) 0 .put ⌝ }
-    ensures { λ r. ⌜ now (buffer .exit) ≡ putLines (logOf (now (text .entry))) (now (buffer .entry)) 0 .buffer ⌝ }
+// One pass over a text: its log's lines are written, or only measured; the place behind them, or Short at the first that doesn't fit.
+fn pass(text: &[u8], plan: &mut Plan, s: &mut Cascade, write: bool, buffer: &mut [u8]) -> Put
+    ensures { λ r. ⌜ r ≡ passBy write (now (text .entry)) (now (s .entry)) (now (buffer .entry)) .put ⌝ }
+    ensures { λ r. ⌜ now (s .exit) ≡ passBy write (now (text .entry)) (now (s .entry)) (now (buffer .entry)) .cells ⌝ }
+    ensures { λ r. ⌜ now (buffer .exit) ≡ passBy write (now (text .entry)) (now (s .entry)) (now (buffer .entry)) .buffer ⌝ }
     ensures { λ r. ⌜ now (plan .exit) ≡ leaves (reading (handed (now (text .entry)))) (now (plan .entry)) ⌝ }
-    ensures { λ r. ⌜ now (s .exit) ≡ runBy (now (text .entry)) (now (s .entry)) (now (buffer .entry)) .cells ⌝ }
 {
     let text = log::handed(text);
     let answer = plan::read(text, plan);
-    match log::first_line(answer, buffer, 0) {
-        Put::Behind(z) => behind_plan(text, answer, plan, s, buffer, z),
+    match log::first_line(answer, write, buffer, 0) {
+        Put::Behind(z) => behind_plan(text, answer, plan, s, write, buffer, z),
         Put::Short => Put::Short,
     }
+}
+
+// Whether the whole log of a text fits into a lent buffer. 18 times 65,536 bytes hold every log (`log-bound` in `logbook`); of a shorter buffer a pass on
+// tables of its own finds it out, which only measures.
+fn log_fits(text: &[u8], buffer: &mut [u8]) -> bool
+    ensures { λ r. ⌜ r ≡ fits (now (buffer .entry)) 0 (logBytes (now (text .entry))) ⌝ }
+    ensures { λ r. ⌜ now (buffer .exit) ≡ now (buffer .entry) ⌝ }
+{
+    if 1179648 <= buffer.len() {
+        return true;
+    }
+    let mut plan = [0u32; 1672];
+    let mut s = [0u32; 1160];
+    match pass(text, &mut plan, &mut s, false, buffer) {
+        Put::Behind(_) => true,
+        Put::Short => false,
+    }
+}
+
+// The whole log of a text into a lent buffer: the place behind it, or Short where it doesn't fit, and then nothing that is lent changes. A taken plan's tables
+// stand in `plan`, and the cascade's in `s`; a refused plan leaves both as they were.
+pub fn run(text: &[u8], plan: &mut Plan, s: &mut Cascade, buffer: &mut [u8]) -> Put
+    ensures { λ r. ⌜ r ≡ putAnswer (now (buffer .entry)) 0 (logBytes (now (text .entry))) ⌝ }
+    ensures { λ r. ⌜ now (buffer .exit) ≡ putBuffer (now (buffer .entry)) 0 (logBytes (now (text .entry))) ⌝ }
+    ensures { λ r. ⌜ now (plan .exit) ≡ planLeft (now (text .entry)) (now (plan .entry)) (now (buffer .entry)) ⌝ }
+    ensures { λ r. ⌜ now (s .exit) ≡ cellsLeft (now (text .entry)) (now (s .entry)) (now (buffer .entry)) ⌝ }
+{
+    if !log_fits(text, buffer) {
+        return Put::Short;
+    }
+    pass(text, plan, s, true, buffer)
 }

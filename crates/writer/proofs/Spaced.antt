@@ -1,13 +1,10 @@
 -- A line as it is written piece by piece: the word, each number behind a space, the bracket and LF; and how long the pieces are.
 -- Assumes nothing.
 use mathlib.Core.Path.{_≡_, refl, sym, ap, _∙_}
-use mathlib.Core.Bool.{Bool, true, false}
 use mathlib.Core.List.{List, [], _∷_, _++_, append-assoc, append-nil}
-use Prim.Native.Nat.{ℕ, suc, _+_, _-_, _≤_, _<_}
+use Prim.Native.Nat.{ℕ, suc, _+_, _≤_, _<_}
 use native.Mathlib.Numerals.{add-one}
 use native.Mathlib.Omega.{arith}
-use borrow.Author.Tests.{le-leb, lt-leb, leb-true, leb-false}
-use lib.Dec.{leb}
 use lib.ListN.{length, take, drop, set, getD, length-append, take-append-drop}
 use lib.Seq.{drop-cons, take-suc, append-snoc}
 use Rattle.text.specs.Number.{digits}
@@ -73,14 +70,6 @@ pub left-more : (ns : List ℕ) (i : ℕ) → i < length ns
 unfolding drawNumbers
 left-more ns i h =
     rw (add-one i, drop-cons ns i 0 h, length-append (digits (getD ns i 0)) (drawNumbers (drop (suc i) ns))) (omega arith)
-
--- a test after k bytes were counted off
-pub leb-shift : (k m r : ℕ) → k ≤ r → leb (k + m) r ≡ leb m (r - k)
-leb-shift k m r h = go (leb m (r - k)) refl
-  where
-    go : (t : Bool) → leb m (r - k) ≡ t → leb (k + m) r ≡ leb m (r - k)
-    go true e = le-leb (k + m) r (omega (arith, leb-true m (r - k) e)) ∙ sym e
-    go false e = lt-leb (k + m) r (omega (arith, leb-false m (r - k) e)) ∙ sym e
 
 -- a space and a number written behind what was written
 module _ (d : List ℕ) (at : ℕ) (s : List ℕ) where

@@ -1,18 +1,18 @@
--- A buffer with bytes written over its own: as long as before, one byte is a store, and bytes written behind bytes are both written at once.
--- Assumes nothing.
+-- A buffer with bytes written over its own: as long as before, one byte is a store, and bytes written behind bytes are both written at once. A pass
+-- that only measures answers the same. Assumes nothing.
 use mathlib.Core.Path.{_≡_, refl, sym, ap, _∙_}
 use mathlib.Core.List.{List, [], _∷_, _++_, append-assoc, append-nil}
-use Prim.Native.Nat.{ℕ, suc, _+_, _^_, _≤_, _<_}
+use Prim.Native.Nat.{ℕ, suc, _+_, _-_, _^_, _≤_, _<_}
 use mathlib.Core.Option.{some}
 use native.Mathlib.Nat.{add-zero, add-assoc}
 use native.Mathlib.Numerals.{add-one}
 use native.Mathlib.Omega.{arith}
-use borrow.Author.Tests.{le-leb, lt-leb}
+use borrow.Author.Tests.{le-leb, lt-leb, leb-true, leb-false}
 use lib.ListN.{length, take, drop, set, length-append, take-append-drop}
 use lib.Seq.{take-length, length-paste, length-paste-head, set-split, append-snoc, take-at, drop-append-add, paste, drop-drop, drop-at, length-take-le}
 use Rattle.text.specs.Part.{part}
 use Rattle.text.specs.Number.{digits, digitRun, readNumber, numberFrom, numberAt}
-use Rattle.writer.specs.Write.{overwrite, written, putBuffer, answered, putAnswer, putNumber, numbered, putRow}
+use Rattle.writer.specs.Write.{overwrite, written, putBuffer, passBuffer, answered, putAnswer, putNumber, numbered, putRow}
 use Rattle.writer.specs.declared.Put.{Put}
 use Rattle.writer.specs.declared.Put.the-variants.{Behind, Short}
 use mathlib.Core.Bool.{Bool, true, false}
@@ -57,6 +57,12 @@ overwrite-snoc d at s x h =
     set-overwrite (overwrite d at s) (at + length s) x (rw (overwrite-length d at s (omega arith)) h)
     ∙ overwrite-append d at s (x ∷ []) (omega arith)
 
+-- the two answers differ
+apart : (x : ℕ) → Short ≡ Behind x → ⊥
+apart x h =
+    let z : _≡_ {A = ℕ} 0 1 = cc in
+    omega arith
+
 -- where the bytes fit, and where they do not
 pub put-fits : (d : List ℕ) (at : ℕ) (s : List ℕ) → at + length s ≤ length d
     → (putAnswer d at s ≡ Behind (at + length s)) × (putBuffer d at s ≡ overwrite d at s)
@@ -67,6 +73,82 @@ pub put-short : (d : List ℕ) (at : ℕ) (s : List ℕ) → length d < at + len
 unfolding putAnswer putBuffer answered written
 put-short d at s h = (rw (lt-leb (at + length s) (length d) h), rw (lt-leb (at + length s) (length d) h))
 
+-- a pass that writes, and one that only measures
+pub pass-fits : (w : Bool) (d : List ℕ) (at : ℕ) (s : List ℕ) → w ≡ true → at + length s ≤ length d → passBuffer w d at s ≡ overwrite d at s
+unfolding passBuffer
+pass-fits w d at s e h = rw e (put-fits d at s h .1)
+
+pub pass-measured : (w : Bool) (d : List ℕ) (at : ℕ) (s : List ℕ) → w ≡ false → passBuffer w d at s ≡ d
+unfolding passBuffer
+pass-measured w d at s e = rw e
+
+pub pass-short : (w : Bool) (d : List ℕ) (at : ℕ) (s : List ℕ) → length d < at + length s → passBuffer w d at s ≡ d
+unfolding passBuffer
+pass-short true d at s h = put-short d at s h .1
+pass-short false d at s h = refl
+
+-- neither changes how long the buffer is
+pub put-length : (d : List ℕ) (at : ℕ) (s : List ℕ) → length (putBuffer d at s) ≡ length d
+put-length d at s = go (leb (at + length s) (length d)) refl
+  where
+    go : (t : Bool) → leb (at + length s) (length d) ≡ t → length (putBuffer d at s) ≡ length d
+    go true h =
+        let fit = leb-true (at + length s) (length d) h in
+        ap length (put-fits d at s fit .1) ∙ overwrite-length d at s fit
+    go false h = ap length (put-short d at s (leb-false (at + length s) (length d) h) .1)
+
+pub pass-length : (w : Bool) (d : List ℕ) (at : ℕ) (s : List ℕ) → length (passBuffer w d at s) ≡ length d
+unfolding passBuffer
+pass-length true d at s = put-length d at s
+pass-length false d at s = refl
+
+-- nothing written changes nothing, in either pass
+pub put-none : (d : List ℕ) (at : ℕ) → putBuffer d at [] ≡ d
+unfolding putBuffer written
+put-none d at = go (leb (at + 0) (length d))
+  where
+    go : (t : Bool) → written t d at [] ≡ d
+    go true = overwrite-none d at
+    go false = refl
+
+pub pass-none : (w : Bool) (d : List ℕ) (at : ℕ) → passBuffer w d at [] ≡ d
+unfolding passBuffer
+pass-none true d at = put-none d at
+pass-none false d at = refl
+
+-- how much of a room n bytes leave over
+module _ (n room : ℕ) where
+  pub rest-over : (left : ℕ) → n + left ≡ room → Behind left ≡ answered (leb n room) (room - n)
+  unfolding answered
+  rest-over left h =
+      let e : left ≡ room - n = omega arith in
+      ap Behind e ∙ rw (le-leb n room (omega arith))
+
+  pub rest-short : room < n → Short ≡ answered (leb n room) (room - n)
+  unfolding answered
+  rest-short h = rw (lt-leb n room h)
+
+  -- and what is told by it
+  pub rest-told : (r : Put) (x : ℕ) → r ≡ answered (leb n room) (room - n) → r ≡ Behind x → n + x ≡ room
+  rest-told r x p q = go (leb n room) refl
+    where
+      go : (t : Bool) → leb n room ≡ t → n + x ≡ room
+      go true h =
+          let fit = leb-true n room h in
+          let e = rest-over (room - n) (omega arith) in
+          let y : x ≡ room - n = cc in
+          omega arith
+      go false h = absurd (apart x (rest-short (leb-false n room h) ∙ sym p ∙ q))
+
+  pub rest-lacks : (r : Put) → r ≡ answered (leb n room) (room - n) → r ≡ Short → room < n
+  rest-lacks r p q = go (leb n room) refl
+    where
+      go : (t : Bool) → leb n room ≡ t → room < n
+      go true h =
+          let fit = leb-true n room h in
+          absurd (apart (room - n) (sym q ∙ p ∙ sym (rest-over (room - n) (omega arith))))
+      go false h = leb-false n room h
+
 -- document 01's number of the answer, by whether the bytes fit
 answer-number : (b : Bool) (behind : ℕ) → putNumber (answered b behind) ≡ numbered b
 unfolding putNumber answered numbered
@@ -74,10 +156,17 @@ answer-number true behind = refl
 answer-number false behind = refl
 
 -- the answer and the buffer with that number: what each public function promises
+number-told : (d : List ℕ) (at : ℕ) (s : List ℕ) (r : Put) → r ≡ putAnswer d at s → putNumber r ≡ putRow d at s
+unfolding putAnswer putRow
+number-told d at s r p = ap putNumber p ∙ answer-number (leb (at + length s) (length d)) (at + length s)
+
 pub put-told : (d : List ℕ) (at : ℕ) (s : List ℕ) (r : Put) (e : List ℕ) → r ≡ putAnswer d at s → e ≡ putBuffer d at s
     → (r ≡ putAnswer d at s) × (e ≡ putBuffer d at s) × (putNumber r ≡ putRow d at s)
-unfolding putAnswer putRow
-put-told d at s r e p q = (p, q, ap putNumber p ∙ answer-number (leb (at + length s) (length d)) (at + length s))
+put-told d at s r e p q = (p, q, number-told d at s r p)
+
+pub pass-told : (w : Bool) (d : List ℕ) (at : ℕ) (s : List ℕ) (r : Put) (e : List ℕ) → r ≡ putAnswer d at s → e ≡ passBuffer w d at s
+    → (r ≡ putAnswer d at s) × (e ≡ passBuffer w d at s) × (putNumber r ≡ putRow d at s)
+pass-told w d at s r e p q = (p, q, number-told d at s r p)
 
 -- what was written stands there
 pub part-overwrite : (d : List ℕ) (at : ℕ) (s : List ℕ) → at ≤ length d → part (overwrite d at s) at (at + length s) ≡ s

@@ -24,6 +24,11 @@ written false buffer at bytes = buffer
 unfoldable pub putBuffer : List ℕ → ℕ → List ℕ → List ℕ
 putBuffer buffer at bytes = written (fits buffer at bytes) buffer at bytes
 
+-- the whole buffer after a line of a pass that writes, or of one that only measures and changes no byte
+unfoldable pub passBuffer : Bool → List ℕ → ℕ → List ℕ → List ℕ
+passBuffer true buffer at bytes = putBuffer buffer at bytes
+passBuffer false buffer at bytes = buffer
+
 unfoldable pub answered : Bool → ℕ → Put
 answered true behind = Behind behind
 answered false behind = Short

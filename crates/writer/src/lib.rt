@@ -2,11 +2,11 @@
 // whole answer and the whole buffer, for every input, by a definition of specs/.
 ghost use mathlib.Core.Path.{_≡_};
 ghost use mathlib.Core.List.{[]};
-ghost use Prim.Native.Nat.{_+_, _≤_, _<_};
+ghost use Prim.Native.Nat.{_+_, _-_, _≤_, _<_};
 ghost use lib.Dec.{leb};
 ghost use lib.ListN.{length};
 ghost use Rattle.text.specs.Number.{digits};
-ghost use Rattle.writer.specs.Write.{overwrite, putAnswer, putBuffer, putNumber, putRow, drawLine};
+ghost use Rattle.writer.specs.Write.{overwrite, answered, passBuffer, putAnswer, putBuffer, putNumber, putRow, drawLine};
 
 // The place behind what was written, or: the buffer is too short.
 pub enum Put {
@@ -93,24 +93,27 @@ pub fn put_number(buffer: &mut [u8], at: usize, value: u64) -> Put
     Put::Behind(digits_to(buffer, at, value))
 }
 
-// Whether a whole line, the form and its LF, fits in this many bytes.
-fn line_fits(word: &[u8], numbers: &[u64], room: usize) -> bool
-    ensures { λ r. ⌜ r ≡ leb (length (drawLine (now (word .entry)) (now (numbers .entry)))) room ⌝ }
+// How many of this many bytes a whole line, the form and its LF, leaves over, or: it does not fit.
+fn line_rest(word: &[u8], numbers: &[u64], room: usize) -> Put
+    ensures { λ r. ⌜ r ≡ answered (leb (length (drawLine (now (word .entry)) (now (numbers .entry)))) room) (room - length (drawLine (now (word .entry)) (now (numbers .entry)))) ⌝ }
 {
     if room < word.len() {
-        return false;
+        return Put::Short;
     }
     let mut left = room - word.len();
     let mut i = 0;
     while i < numbers.len() {
         let need = number_length(numbers[i]) + 1;
         if left < need {
-            return false;
+            return Put::Short;
         }
         left -= need;
         i += 1;
     }
-    2 <= left
+    if left < 2 {
+        return Put::Short;
+    }
+    Put::Behind(left - 2)
 }
 
 // The numbers, each behind a space, `)` and LF, from `at` on, into a buffer that has room for them; the place behind them.
@@ -130,15 +133,19 @@ fn numbers_to(buffer: &mut [u8], at: usize, numbers: &[u64]) -> usize
     p + 2
 }
 
-// A whole line into the buffer from `at` on, or nothing: the word, each number behind a space, `)` and LF.
-pub fn put_form(buffer: &mut [u8], at: usize, word: &[u8], numbers: &[u64]) -> Put
-    ensures { λ r. ⌜ (r ≡ putAnswer (now (buffer .entry)) at (drawLine (now (word .entry)) (now (numbers .entry)))) × (now (buffer .exit) ≡ putBuffer (now (buffer .entry)) at (drawLine (now (word .entry)) (now (numbers .entry)))) × (putNumber r ≡ putRow (now (buffer .entry)) at (drawLine (now (word .entry)) (now (numbers .entry)))) ⌝ }
+// A whole line into the buffer from `at` on, or nothing: the word, each number behind a space, `)` and LF. Without `write` it is only measured: the
+// answer is the same, and no byte changes.
+pub fn put_form(write: bool, buffer: &mut [u8], at: usize, word: &[u8], numbers: &[u64]) -> Put
+    ensures { λ r. ⌜ (r ≡ putAnswer (now (buffer .entry)) at (drawLine (now (word .entry)) (now (numbers .entry)))) × (now (buffer .exit) ≡ passBuffer write (now (buffer .entry)) at (drawLine (now (word .entry)) (now (numbers .entry)))) × (putNumber r ≡ putRow (now (buffer .entry)) at (drawLine (now (word .entry)) (now (numbers .entry)))) ⌝ }
 {
     if buffer.len() < at {
         return Put::Short;
     }
-    if !line_fits(word, numbers, buffer.len() - at) {
+    let Put::Behind(rest) = line_rest(word, numbers, buffer.len() - at) else {
         return Put::Short;
+    };
+    if !write {
+        return Put::Behind(buffer.len() - rest);
     }
     let behind = copy_to(buffer, at, word);
     Put::Behind(numbers_to(buffer, behind, numbers))

@@ -100,7 +100,7 @@ pub fn read(text: &[u8], plan: &mut ffi::Plan) -> (u32, [u64; 4]) {
     (number, told)
 }
 
-/// What `lembuya_run` answers: its number and its end.
+/// What `lembuya_run` answers: its number and its end, which stays u64::MAX where it isn't told.
 pub fn run(text: &[u8], plan: &mut ffi::Plan, cascade: &mut ffi::Cascade, log: &mut [u8]) -> (u32, u64) {
     let mut end = [u64::MAX];
     let number = unsafe {

@@ -1,6 +1,6 @@
 -- `cascade::write_log` is safe and ends. What it writes lies within the buffer. Assumes nothing.
-use Rattle.logbook.specs.Log.{logOf}
-use Rattle.session.proofs.Within.{lines-within, lines-count}
+use Rattle.logbook.specs.Log.{logBytes}
+use Rattle.log.proofs.Within.{behind-within, behind-counts}
 use borrow.Author.Needs.{needs}
 use Rattle.cascade.proofs.write_log.Statement.{statement}
 use Rattle.cascade.proofs.write_log.Tie as tie
@@ -15,13 +15,13 @@ slice-reshare-prefix-write-all : tie.Need-slice-reshare-prefix-write-all
 slice-reshare-prefix-write-all c =
     let a = c .before .before .before .before .before .before .before .before .before .before .before .args in
     let r = c .before .before .before .before .before .run .ensures in
-    lines-within (logOf (a .text .now)) (a .out .now) (r .0) (c .before .end .given .1) (r .1 .0)
+    behind-within (a .out .now) 0 (logBytes (a .text .now)) (r .0) (c .before .end .given .1) (r .1 .0)
 
 slice-aggregate-write-all : tie.Need-slice-aggregate-write-all
 slice-aggregate-write-all c =
     let a = c .before .before .before .before .before .before .before .before .before .before .before .before .args in
     let r = c .before .before .before .before .before .before .run .ensures in
-    lines-count (logOf (a .text .now)) (a .out .now) (r .0) (c .before .before .end .given .1) (r .1 .0)
+    behind-counts (a .out .now) 0 (logBytes (a .text .now)) (r .0) (c .before .before .end .given .1) (r .1 .0)
 
 write-all-requires : tie.Need-write-all-requires
 write-all-requires c κs = search needs

@@ -1,6 +1,7 @@
 -- `lembuya_run` meets its contract: what `session::run` leaves, and its answer told by its case.
 use mathlib.Core.Path.{sym, _∙_}
 use native.Mathlib.Omega.{arith}
+use Rattle.logbook.specs.Log.{logBytes}
 use Rattle.lembuya.proofs.Laws.{behind-number, behind-end, short-number, short-end}
 use borrow.Author.Needs.{needs}
 use Rattle.lembuya.proofs.lembuya_run.Statement.{statement}
@@ -18,9 +19,6 @@ element-write-end c = search needs
 enum-told : tie.Need-enum-told
 enum-told c = search needs
 
-element-write-end-2 : tie.Need-element-write-end-2
-element-write-end-2 c = search needs
-
 same-length : tie.Need-same-length
 same-length c = search needs
 
@@ -30,7 +28,7 @@ returns c =
     let e = c .before .before .before .before .before .run .ensures in
     let z = c .before .z .given in
     let x = sym (z .1) ∙ e .0 in
-    let w = behind-number (z .0 .0) x in
+    let w = behind-number (a .log .now) (logBytes (a .text .now)) (z .0 .0) x in
     (omega (arith, w), (e .1 .0, (behind-end (a .end .now) (z .0 .0) x, e .1 .1)))
 
 same-length-2 : tie.Need-same-length-2
@@ -41,7 +39,7 @@ returns-2 c =
     let a = c .before .before .before .before .before .before .before .before .before .before .args in
     let e = c .before .before .before .before .run .ensures in
     let x = sym (c .enum-told .given .1) ∙ e .0 in
-    let w = short-number x in
+    let w = short-number (a .log .now) (logBytes (a .text .now)) x in
     (omega (arith, w), (e .1 .0, (short-end (a .end .now) x, e .1 .1)))
 
 pub lembuya-run-spec : {M : Type 1} → statement M
@@ -52,7 +50,6 @@ lembuya-run-spec =
     enum-known-z
     element-write-end
     enum-told
-    element-write-end-2
     same-length
     returns
     same-length-2

@@ -23,7 +23,7 @@ unfolding refusedLine
 returns c =
     let a = c .before .before .before .before .before .before .before .args in
     let p = c .before .before .put-form in
-    put-same (a .buffer .now) (a .at) (p .result) (p .last .0) (p .ensures) refl
+    put-same (a .write) (a .buffer .now) (a .at) (p .result) (p .last .1 .0) (p .ensures) refl
 
 pub refused-line-spec : {M : Type 1} → statement M
 refused-line-spec =

@@ -7,7 +7,7 @@ use Rattle.state.specs.declared.Step.{Step}
 use Rattle.state.specs.declared.Step.the-variants.{Grant, Rest, Quiet, Refused}
 use Rattle.writer.specs.Write.{drawLine}
 use Rattle.lines.specs.Lines.{grant-word, rest-word, grantLine, restLine, stepLine}
-use Rattle.lines.proofs.PutSame.{put-same}
+use Rattle.lines.proofs.PutSame.{put-same, none-same}
 use Rattle.lines.proofs.step_line.Statement.{statement}
 use Rattle.lines.proofs.step_line.Tie as tie
 
@@ -31,11 +31,11 @@ refused x n e = rw e
 enum-known-step : tie.Need-enum-known-step
 enum-known-step c = search needs
 
-cast-t18 : tie.Need-cast-t18
-cast-t18 c = search needs
-
 cast-t19 : tie.Need-cast-t19
 cast-t19 c = search needs
+
+cast-t20 : tie.Need-cast-t20
+cast-t20 c = search needs
 
 slice-aggregate-put-form : tie.Need-slice-aggregate-put-form
 slice-aggregate-put-form c = search needs
@@ -84,7 +84,7 @@ returns c =
     let a = c .before .before .before .before .before .before .before .before .before .before .args in
     let g = c .before .before .before .before .before .before .before .step .given in
     let p = c .before .before .put-form in
-    put-same (a .buffer .now) (a .at) (p .result) (p .last .0) (p .ensures) (granted (a .step) (g .0 .0) (g .0 .1 .0) (g .0 .1 .1 .0) (g .0 .1 .1 .1 .0) (g .0 .1 .1 .1 .1 .0) (g .1))
+    put-same (a .write) (a .buffer .now) (a .at) (p .result) (p .last .1 .0) (p .ensures) (granted (a .step) (g .0 .0) (g .0 .1 .0) (g .0 .1 .1 .0) (g .0 .1 .1 .1 .0) (g .0 .1 .1 .1 .1 .0) (g .1))
 
 same-length-2 : tie.Need-same-length-2
 same-length-2 c = search needs
@@ -94,7 +94,7 @@ returns-2 c =
     let a = c .before .before .before .before .before .before .before .before .before .before .args in
     let g = c .before .before .before .before .before .before .before .step2 .given in
     let p = c .before .before .put-form2 in
-    put-same (a .buffer .now) (a .at) (p .result) (p .last .0) (p .ensures) (rested (a .step) (g .0 .0) (g .0 .1 .0) (g .1))
+    put-same (a .write) (a .buffer .now) (a .at) (p .result) (p .last .1 .0) (p .ensures) (rested (a .step) (g .0 .0) (g .0 .1 .0) (g .1))
 
 same-length-3 : tie.Need-same-length-3
 same-length-3 c = search needs
@@ -104,7 +104,7 @@ returns-3 c =
     let a = c .before .before .before .before .before .before .before .before .args in
     let g = c .before .before .before .before .before .enum-told .given in
     let p = c .before .before .put-word in
-    put-same (a .buffer .now) (a .at) (p .result) (p .last .0) (p .ensures) (quiet (a .step) (g .1))
+    none-same (a .write) (a .buffer .now) (a .at) (p .result) (p .last .0) (p .ensures) (quiet (a .step) (g .1))
 
 same-length-4 : tie.Need-same-length-4
 same-length-4 c = search needs
@@ -114,15 +114,15 @@ returns-4 c =
     let a = c .before .before .before .before .before .before .before .before .args in
     let g = c .before .before .before .before .before .enum-told2 .given in
     let p = c .before .before .put-word2 in
-    put-same (a .buffer .now) (a .at) (p .result) (p .last .0) (p .ensures) (refused (a .step) (g .0 .0) (g .1))
+    none-same (a .write) (a .buffer .now) (a .at) (p .result) (p .last .0) (p .ensures) (refused (a .step) (g .0 .0) (g .1))
 
 pub step-line-spec : {M : Type 1} → statement M
 step-line-spec =
     tie.close
     (tie.spec
     enum-known-step
-    cast-t18
     cast-t19
+    cast-t20
     slice-aggregate-put-form
     slice-aggregate-put-form-2
     put-form-requires

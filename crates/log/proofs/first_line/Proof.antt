@@ -29,8 +29,8 @@ nodes-line-requires c κs = search needs
 enum-known-answer-2 : tie.Need-enum-known-answer-2
 enum-known-answer-2 c = search needs
 
-cast-t14 : tie.Need-cast-t14
-cast-t14 c = search needs
+cast-t15 : tie.Need-cast-t15
+cast-t15 c = search needs
 
 slice-aggregate-put-form : tie.Need-slice-aggregate-put-form
 slice-aggregate-put-form c = search needs
@@ -49,7 +49,7 @@ returns c =
     let a = c .before .before .before .before .before .before .before .before .args in
     let g = c .before .before .before .before .before .answer .given in
     let p = c .before .before .nodes-line in
-    let q = put-same (a .buffer .now) (a .at) (p .result) (p .last .1 .1 .0) (p .ensures) (taken (a .answer) (g .0 .0) (g .0 .1 .0) (g .0 .1 .1 .0) (g .0 .1 .1 .1 .0) (g .1)) in
+    let q = put-same (a .write) (a .buffer .now) (a .at) (p .result) (p .last .1 .1 .1 .0) (p .ensures) (taken (a .answer) (g .0 .0) (g .0 .1 .0) (g .0 .1 .1 .0) (g .0 .1 .1 .1 .0) (g .1)) in
     (q .0, (q .1, q .2))
 
 same-length-2 : tie.Need-same-length-2
@@ -60,7 +60,7 @@ returns-2 c =
     let a = c .before .before .before .before .before .before .before .before .before .before .args in
     let g = c .before .before .before .before .before .before .before .answer2 .given in
     let p = c .before .before .put-form in
-    let q = put-same (a .buffer .now) (a .at) (p .result) (p .last .0) (p .ensures) (refused (a .answer) (g .0 .0) (g .0 .1 .0) (g .1)) in
+    let q = put-same (a .write) (a .buffer .now) (a .at) (p .result) (p .last .1 .0) (p .ensures) (refused (a .answer) (g .0 .0) (g .0 .1 .0) (g .1)) in
     (q .0, (q .1, q .2))
 
 pub first-line-spec : {M : Type 1} → statement M
@@ -70,7 +70,7 @@ first-line-spec =
     enum-known-answer
     nodes-line-requires
     enum-known-answer-2
-    cast-t14
+    cast-t15
     slice-aggregate-put-form
     slice-aggregate-put-form-2
     put-form-requires

@@ -41,7 +41,7 @@ returns c =
     let a = c .before .before .before .before .before .before .before .before .before .args in
     let h = c .before .before .before .before .before .before .nodes-head in
     let p = c .before .before .put-form in
-    put-same (a .buffer .now) (a .at) (p .result) (p .last .0) (p .ensures) (ap (λ (w : List ℕ). drawLine w (a .hubs ∷ [])) (h .ensures .1))
+    put-same (a .write) (a .buffer .now) (a .at) (p .result) (p .last .1 .0) (p .ensures) (ap (λ (w : List ℕ). drawLine w (a .hubs ∷ [])) (h .ensures .1))
 
 pub nodes-line-spec : {M : Type 1} → statement M
 nodes-line-spec =

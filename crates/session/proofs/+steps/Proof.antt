@@ -33,7 +33,7 @@ met t =
 steps-returns : (t : ℕ) → steps-lts.Need-returns (met t) (steps-at t) steps.Post
 steps-returns t c =
     let a = c .before .before .args in
-    no-steps (a .p .now) (a .left) (a .t) (a .s .now) (a .buffer .now) (a .at) (c .if1 .taken)
+    no-steps (a .write) (a .p .now) (a .left) (a .t) (a .s .now) (a .buffer .now) (a .at) (c .if1 .taken)
 
 steps-step-requires : (t : ℕ) → steps-lts.Need-step-requires (met t) (steps-at t) steps.Post
 steps-step-requires t c κs = tt
@@ -44,7 +44,7 @@ steps-goes-on-requires t c κs = tt
 steps-returns-2 : (t : ℕ) → steps-lts.Need-returns-2 (met t) (steps-at t) steps.Post
 steps-returns-2 t c =
     let a = c .before .before .before .before .before .before .args in
-    last-step (a .p .now) (a .left) (a .t) (a .s .now) (a .buffer .now) (a .at) (c .before .before .before .before .if1 .left) (c .before .before .step .ensures) (sym (c .before .goes-on .ensures) ∙ not-true _ (c .if2 .taken))
+    last-step (a .write) (a .p .now) (a .left) (a .t) (a .s .now) (a .buffer .now) (a .at) (c .before .before .before .before .if1 .left) (c .before .before .step .ensures) (sym (c .before .goes-on .ensures) ∙ not-true _ (c .if2 .taken))
 
 steps-step-line-requires : (t : ℕ) → steps-lts.Need-step-line-requires (met t) (steps-at t) steps.Post
 steps-step-line-requires t c κs = tt
@@ -67,7 +67,7 @@ steps-same-length t c = search needs
 steps-returns-3 : (t : ℕ) → steps-lts.Need-returns-3 (met t) (steps-at t) steps.Post
 steps-returns-3 t c =
     let a = c .before .before .before .before .before .before .before .before .before .before .before .before .before .before .before .before .before .before .args in
-    more-steps (a .p .now) (a .left) (a .t) (a .s .now) (a .buffer .now) (a .at) (c .before .before .before .before .before .before .before .before .before .before .before .before .before .before .before .before .if1 .left) (c .before .before .before .before .before .before .before .before .before .before .before .before .before .before .step .ensures) (sym (c .before .before .before .before .before .before .before .before .before .before .before .before .before .goes-on .ensures) ∙ not-false _ (c .before .before .before .before .before .before .before .before .before .before .before .before .if2 .left)) (c .before .before .before .before .before .before .before .before .before .before .step-line .ensures .0) (c .before .before .before .before .before .before .before .before .before .before .step-line .ensures .1 .0) (c .before .before .before .before .before .before .z .given .0 .0) (c .before .before .before .before .before .before .z .given .1) (c .before .before .steps .ensures)
+    more-steps (a .write) (a .p .now) (a .left) (a .t) (a .s .now) (a .buffer .now) (a .at) (c .before .before .before .before .before .before .before .before .before .before .before .before .before .before .before .before .if1 .left) (c .before .before .before .before .before .before .before .before .before .before .before .before .before .before .step .ensures) (sym (c .before .before .before .before .before .before .before .before .before .before .before .before .before .goes-on .ensures) ∙ not-false _ (c .before .before .before .before .before .before .before .before .before .before .before .before .if2 .left)) (c .before .before .before .before .before .before .before .before .before .before .step-line .ensures .0) (c .before .before .before .before .before .before .before .before .before .before .step-line .ensures .1 .0) (c .before .before .before .before .before .before .z .given .0 .0) (c .before .before .before .before .before .before .z .given .1) (c .before .before .steps .ensures)
 
 steps-same-length-2 : (t : ℕ) → steps-lts.Need-same-length-2 (met t) (steps-at t) steps.Post
 steps-same-length-2 t c = search needs
@@ -75,7 +75,7 @@ steps-same-length-2 t c = search needs
 steps-returns-4 : (t : ℕ) → steps-lts.Need-returns-4 (met t) (steps-at t) steps.Post
 steps-returns-4 t c =
     let a = c .before .before .before .before .before .before .before .before .before .before .before .before .args in
-    no-room (a .p .now) (a .left) (a .t) (a .s .now) (a .buffer .now) (a .at) (c .before .before .before .before .before .before .before .before .before .before .if1 .left) (c .before .before .before .before .before .before .before .before .step .ensures) (sym (c .before .before .before .before .before .before .before .goes-on .ensures) ∙ not-false _ (c .before .before .before .before .before .before .if2 .left)) (c .before .before .before .before .step-line .ensures .0) (c .before .before .before .before .step-line .ensures .1 .0) (c .enum-told .given .1)
+    no-room (a .write) (a .p .now) (a .left) (a .t) (a .s .now) (a .buffer .now) (a .at) (c .before .before .before .before .before .before .before .before .before .before .if1 .left) (c .before .before .before .before .before .before .before .before .step .ensures) (sym (c .before .before .before .before .before .before .before .goes-on .ensures) ∙ not-false _ (c .before .before .before .before .before .before .if2 .left)) (c .before .before .before .before .step-line .ensures .0) (c .before .before .before .before .step-line .ensures .1 .0) (c .enum-told .given .1)
 
 pub +steps-spec : {M : Type 1} → statement M
 +steps-spec = close μ-steps λ t. steps-lts.spec (met t)

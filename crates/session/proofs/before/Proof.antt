@@ -10,7 +10,7 @@ enum-told c = search needs
 returns : tie.Need-returns
 returns c =
     let a = c .before .before .before .args in
-    before-none (a .p .now) (a .e) (a .s .now) (a .buffer .now) (a .at) (c .enum-told .given .1)
+    before-none (a .write) (a .p .now) (a .e) (a .s .now) (a .buffer .now) (a .at) (c .enum-told .given .1)
 
 budget-requires : tie.Need-budget-requires
 budget-requires c κs = search needs
@@ -27,7 +27,7 @@ same-length c = search needs
 returns-2 : tie.Need-returns-2
 returns-2 c =
     let a = c .before .before .before .before .before .before .before .before .before .before .args in
-    before-event (a .p .now) (a .e) (a .s .now) (a .buffer .now) (a .at) (c .before .before .before .before .before .before .before .before .match .keys2) (c .before .before .before .before .before .before .budget .ensures) (c .before .before .before .before .time-of .ensures) (c .before .before .steps .ensures)
+    before-event (a .write) (a .p .now) (a .e) (a .s .now) (a .buffer .now) (a .at) (c .before .before .before .before .before .before .before .before .match .keys2) (c .before .before .before .before .before .before .budget .ensures) (c .before .before .before .before .time-of .ensures) (c .before .before .steps .ensures)
 
 pub before-spec : {M : Type 1} → statement M
 before-spec =

@@ -23,13 +23,13 @@ returns : tie.Need-returns
 returns c =
     let a = c .before .before .before .before .before .before .before .before .before .before .before .before .args in
     let w = c .before .before .before .before .before .before .before .before .answer .given in
-    plan-taken (a .text .now) (a .answer) (a .p .now) (a .s .now) (a .buffer .now) (a .at) (w .0 .0) (w .0 .1 .0) (w .0 .1 .1 .0) (w .0 .1 .1 .1 .0) (w .1) (c .before .before .before .before .before .fresh .ensures) (c .before .before .events .ensures)
+    plan-taken (a .write) (a .text .now) (a .answer) (a .p .now) (a .s .now) (a .buffer .now) (a .at) (w .0 .0) (w .0 .1 .0) (w .0 .1 .1 .0) (w .0 .1 .1 .1 .0) (w .1) (c .before .before .before .before .before .fresh .ensures) (c .before .before .events .ensures)
 
 returns-2 : tie.Need-returns-2
 returns-2 c =
     let a = c .before .before .before .before .args in
     let w = c .enum-told .given in
-    plan-refused (a .text .now) (a .answer) (a .p .now) (a .s .now) (a .buffer .now) (a .at) (w .0 .0) (w .0 .1 .0) (w .1)
+    plan-refused (a .write) (a .text .now) (a .answer) (a .p .now) (a .s .now) (a .buffer .now) (a .at) (w .0 .0) (w .0 .1 .0) (w .1)
 
 pub behind-plan-spec : {M : Type 1} → statement M
 behind-plan-spec =

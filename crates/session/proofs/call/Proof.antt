@@ -12,7 +12,7 @@ returns : tie.Need-returns
 returns c =
     let a = c .before .before .before .before .args in
     let m = c .before .make .ensures in
-    call-taken (a .p .now) (a .number) (callOf (a .e)) (a .s .now) (a .buffer .now) (a .at) (m .0) (m .1) (c .if1 .taken)
+    call-taken (a .write) (a .p .now) (a .number) (callOf (a .e)) (a .s .now) (a .buffer .now) (a .at) (m .0) (m .1) (c .if1 .taken)
 
 refused-line-requires : tie.Need-refused-line-requires
 refused-line-requires c κs = search needs
@@ -25,7 +25,7 @@ returns-2 c =
     let a = c .before .before .before .before .before .before .before .before .args in
     let m = c .before .before .before .before .before .make .ensures in
     let l = c .before .before .refused-line .ensures in
-    call-refused (a .p .now) (a .number) (callOf (a .e)) (a .s .now) (a .buffer .now) (a .at) (m .0) (m .1) (c .before .before .before .before .if1 .left) (l .0) (l .1 .0)
+    call-refused (a .write) (a .p .now) (a .number) (callOf (a .e)) (a .s .now) (a .buffer .now) (a .at) (m .0) (m .1) (c .before .before .before .before .if1 .left) (l .0) (l .1 .0)
 
 pub call-spec : {M : Type 1} → statement M
 call-spec = tie.close (tie.spec make-requires returns refused-line-requires same-length returns-2)

@@ -23,7 +23,7 @@ same-length c = search needs
 returns : tie.Need-returns
 returns c =
     let a = c .before .before .before .before .before .before .before .before .before .before .before .before .before .before .args in
-    line-on (a .p .now) (a .number) (callOf (a .e)) (a .s .now) (a .buffer .now) (a .at) (c .before .before .before .before .before .before .before .before .before .before .before2 .ensures) (c .before .before .before .before .before .before .z .given .0 .0) (c .before .before .before .before .before .before .z .given .1) (c .before .before .call .ensures)
+    line-on (a .write) (a .p .now) (a .number) (callOf (a .e)) (a .s .now) (a .buffer .now) (a .at) (c .before .before .before .before .before .before .before .before .before .before .before2 .ensures) (c .before .before .before .before .before .before .z .given .0 .0) (c .before .before .before .before .before .before .z .given .1) (c .before .before .call .ensures)
 
 same-length-2 : tie.Need-same-length-2
 same-length-2 c = search needs
@@ -31,7 +31,7 @@ same-length-2 c = search needs
 returns-2 : tie.Need-returns-2
 returns-2 c =
     let a = c .before .before .before .before .before .before .before .before .args in
-    line-short (a .p .now) (a .number) (callOf (a .e)) (a .s .now) (a .buffer .now) (a .at) (c .before .before .before .before .before2 .ensures) (c .enum-told .given .1)
+    line-short (a .write) (a .p .now) (a .number) (callOf (a .e)) (a .s .now) (a .buffer .now) (a .at) (c .before .before .before .before .before2 .ensures) (c .enum-told .given .1)
 
 pub event-line-spec : {M : Type 1} → statement M
 event-line-spec =

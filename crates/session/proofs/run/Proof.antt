@@ -1,68 +1,37 @@
--- `session::run` meets its contract: what `handed`, `plan::read`, `first_line` and `behind_plan` say, one behind the other, is the run over the cells, and that
--- run writes the log. Assumes nothing.
-use Prim.Native.Nat.{ℕ}
-use mathlib.Core.Path.{ap, _∙_}
-use mathlib.Core.List.{List}
-use Rattle.plan.specs.Reading.{reading, leaves}
-use Rattle.logbook.proofs.RunLogged.{run-logs}
-use Rattle.session.proofs.WholeLaws.{run-on, run-short}
+-- `session::run` meets its contract: nothing is touched where the log doesn't fit, and the second pass writes it whole where it does. Assumes nothing.
+use mathlib.Core.Path.{sym, _∙_}
+use borrow.Author.Tests.{not-true, not-false}
+use Rattle.session.proofs.TwoPasses.{not-written, written-whole}
 use borrow.Author.Needs.{needs}
 use Rattle.session.proofs.run.Statement.{statement}
 use Rattle.session.proofs.run.Tie as tie
 
-handed-requires : tie.Need-handed-requires
-handed-requires c κs = search needs
-
-read-requires : tie.Need-read-requires
-read-requires c κs = search needs
-
-first-line-requires : tie.Need-first-line-requires
-first-line-requires c κs = search needs
-
-enum-known-z : tie.Need-enum-known-z
-enum-known-z c = search needs
-
-behind-plan-requires : tie.Need-behind-plan-requires
-behind-plan-requires c κs = search needs
-
-enum-told : tie.Need-enum-told
-enum-told c = search needs
+log-fits-requires : tie.Need-log-fits-requires
+log-fits-requires c κs = search needs
 
 same-length : tie.Need-same-length
 same-length c = search needs
 
 returns : tie.Need-returns
 returns c =
-    let a = c .before .before .before .before .before .before .before .before .before .before .before .before .before .before .before .before .before .before .args in
-    let h = c .before .before .before .before .before .before .before .before .before .before .before .before .before .before .before .handed .ensures in
-    let l = c .before .before .before .before .before .before .before .before .before .before .before .first-line .ensures in
-    let x = run-on (a .text .now) (a .s .now) (a .buffer .now) (a .plan .now) h (c .before .before .before .before .before .before .before .before .before .before .before .before .before .read .ensures .0) (l .0) (l .1 .0) (c .before .before .before .before .before .before .before .before .before .before .before .before .before .read .ensures .1) (c .before .before .before .before .before .before .before .z .given .0 .0) (c .before .before .before .before .before .before .before .z .given .1) (c .before .before .behind-plan .ensures) in
-    let g = run-logs (a .text .now) (a .s .now) (a .buffer .now) in
-    (x .0 ∙ g .0, (x .1 .1 ∙ g .1, (c .before .before .before .before .before .before .before .before .before .before .before .before .before .read .ensures .1 ∙ ap (λ (t : List ℕ). leaves (reading t) (a .plan .now)) h, x .1 .0)))
+    let a = c .before .before .before .before .before .before .before .args in
+    let f = c .before .before .before .log-fits .ensures in
+    not-written (a .text .now) (a .plan .now) (a .s .now) (a .buffer .now) (f .1) (sym (f .0) ∙ not-true _ (c .if1 .taken))
+
+pass-requires : tie.Need-pass-requires
+pass-requires c κs = search needs
 
 same-length-2 : tie.Need-same-length-2
 same-length-2 c = search needs
 
 returns-2 : tie.Need-returns-2
 returns-2 c =
-    let a = c .before .before .before .before .before .before .before .before .before .before .before .args in
-    let h = c .before .before .before .before .before .before .before .before .handed .ensures in
-    let l = c .before .before .before .before .first-line .ensures in
-    let x = run-short (a .text .now) (a .s .now) (a .buffer .now) (a .plan .now) h (c .before .before .before .before .before .before .read .ensures .0) (l .0) (l .1 .0) (c .enum-told .given .1) in
-    let g = run-logs (a .text .now) (a .s .now) (a .buffer .now) in
-    (x .0 ∙ g .0, (x .1 .1 ∙ g .1, (c .before .before .before .before .before .before .read .ensures .1 ∙ ap (λ (t : List ℕ). leaves (reading t) (a .plan .now)) h, x .1 .0)))
+    let e = c .before .before .before .before .before .before in
+    let a = e .before .before .before .before .before .before .before .args in
+    let f = e .before .before .before .log-fits .ensures in
+    written-whole (a .text .now) (a .plan .now) (a .s .now) (a .buffer .now) (f .1) (sym (f .0) ∙ not-false _ (e .if1 .left)) (c .before .before .pass .ensures)
 
 pub run-spec : {M : Type 1} → statement M
 run-spec =
     tie.close
-    (tie.spec
-    handed-requires
-    read-requires
-    first-line-requires
-    enum-known-z
-    behind-plan-requires
-    enum-told
-    same-length
-    returns
-    same-length-2
-    returns-2)
+    (tie.spec log-fits-requires same-length returns pass-requires same-length-2 returns-2)

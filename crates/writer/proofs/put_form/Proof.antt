@@ -1,16 +1,16 @@
--- `writer::put_form` meets its contract: where the whole line fits it writes the word and then the numbers behind it, and else it changes nothing.
--- Assumes nothing.
+-- `writer::put_form` meets its contract: where the whole line fits it writes the word and then the numbers behind it, or only measures them, and
+-- else it changes nothing. Assumes nothing.
 use mathlib.Core.Path.{_≡_, sym, ap, _∙_}
 use mathlib.Core.List.{List, []}
 use Prim.Native.Nat.{ℕ, _+_, _-_, _≤_}
 use borrow.Author.Needs.{needs}
-use borrow.Author.Tests.{leb-true, leb-false, not-true, not-false}
+use borrow.Author.Tests.{not-true, not-false}
 use native.Mathlib.Omega.{arith}
 use lib.ListN.{length, length-append}
 use Rattle.writer.specs.Write.{overwrite, drawLine}
 use Rattle.writer.specs.declared.Put.the-variants.{Behind}
 use Rattle.writer.proofs.Spaced.{line-behind}
-use Rattle.writer.proofs.Writes.{overwrite-append, put-fits, put-short, put-told}
+use Rattle.writer.proofs.Writes.{overwrite-append, put-fits, put-short, pass-fits, pass-measured, pass-short, pass-told, rest-told, rest-lacks}
 use Rattle.writer.proofs.put_form.Statement.{statement}
 use Rattle.writer.proofs.put_form.Tie as tie
 
@@ -18,72 +18,103 @@ use Rattle.writer.proofs.put_form.Tie as tie
 line-parts : (word ns : List ℕ) → length (drawLine word ns) ≡ length word + length (drawLine [] ns)
 line-parts word ns = ap length (line-behind word ns) ∙ length-append word (drawLine [] ns)
 
--- behind both tests the line fits
-fits : (c : tie.Else2)
-    → c .before .before .before .before .before .before .args .at + length (drawLine (c .before .before .before .before .before .before .args .word .now) (c .before .before .before .before .before .before .args .numbers .now))
-    ≤ length (c .before .before .before .before .before .before .args .buffer .now)
-fits c =
-    let a = c .before .before .before .before .before .before .args in
-    omega (arith, leb-true (length (drawLine (a .word .now) (a .numbers .now))) (length (a .buffer .now) - a .at) (sym (c .before .line-fits .ensures) ∙ not-false _ (c .if2 .left)))
+-- the line that is put
+abbrev line : tie.After-shared-slice-known2 → List ℕ
+line c = drawLine (c .before .before .before .args .word .now) (c .before .before .before .args .numbers .now)
+
+-- it fits, and so much of the buffer is left behind it
+measured : (c : tie.After-known-told)
+    → c .before .before .before .before .before .before .before .before .args .at + length (line (c .before .before .before .before .before)) + c .before .rest .given .0 .0
+    ≡ length (c .before .before .before .before .before .before .before .before .args .buffer .now)
+measured c =
+    let r = c .before .before .before in
+    let a = r .before .before .before .before .before .args in
+    omega (arith, rest-told (length (line (r .before .before))) (length (a .buffer .now) - a .at) (r .line-rest .result) (c .before .rest .given .0 .0) (r .line-rest .ensures) (c .before .rest .given .1))
 
 returns : tie.Need-returns
 returns c =
     let a = c .before .before .before .before .args in
-    let p = put-short (a .buffer .now) (a .at) (drawLine (a .word .now) (a .numbers .now)) (omega arith) in
-    put-told (a .buffer .now) (a .at) (drawLine (a .word .now) (a .numbers .now)) _ _ (sym (p .0)) (sym (p .1))
+    let s : List ℕ = line (c .before) in
+    pass-told (a .write) (a .buffer .now) (a .at) s _ _ (sym (put-short (a .buffer .now) (a .at) s (omega arith) .0)) (sym (pass-short (a .write) (a .buffer .now) (a .at) s (omega arith)))
 
-sub-line-fits : tie.Need-sub-line-fits
-sub-line-fits c = search needs
+sub-line-rest : tie.Need-sub-line-rest
+sub-line-rest c = search needs
 
-line-fits-requires : tie.Need-line-fits-requires
-line-fits-requires c κs = search needs
+line-rest-requires : tie.Need-line-rest-requires
+line-rest-requires c κs = search needs
+
+enum-known-rest : tie.Need-enum-known-rest
+enum-known-rest c = search needs
+
+enum-told : tie.Need-enum-told
+enum-told c = search needs
 
 returns-2 : tie.Need-returns-2
 returns-2 c =
-    let a = c .before .before .before .before .before .before .args in
-    let p = put-short (a .buffer .now) (a .at) (drawLine (a .word .now) (a .numbers .now))
-    (omega (arith, leb-false (length (drawLine (a .word .now) (a .numbers .now))) (length (a .buffer .now) - a .at) (sym (c .before .line-fits .ensures) ∙ not-true _ (c .if2 .taken)))) in
-    put-told (a .buffer .now) (a .at) (drawLine (a .word .now) (a .numbers .now)) _ _ (sym (p .0)) (sym (p .1))
+    let r = c .before .before in
+    let a = r .before .before .before .before .before .args in
+    let s : List ℕ = line (r .before .before) in
+    let lacks = rest-lacks (length s) (length (a .buffer .now) - a .at) (r .line-rest .result) (r .line-rest .ensures) (c .enum-told .given .1) in
+    pass-told (a .write) (a .buffer .now) (a .at) s _ _ (sym (put-short (a .buffer .now) (a .at) s (omega arith) .0)) (sym (pass-short (a .write) (a .buffer .now) (a .at) s (omega arith)))
+
+sub-t13 : tie.Need-sub-t13
+sub-t13 c = omega (arith, measured (c .before))
+
+returns-3 : tie.Need-returns-3
+returns-3 c =
+    let k = c .before in
+    let a = k .before .before .before .before .before .before .before .before .args in
+    let s : List ℕ = line (k .before .before .before .before .before) in
+    let behind : length (a .buffer .now) - k .before .rest .given .0 .0 ≡ a .at + length s = omega (arith, measured k) in
+    pass-told (a .write) (a .buffer .now) (a .at) s _ _
+    (ap Behind behind ∙ sym (put-fits (a .buffer .now) (a .at) s (omega (arith, measured k)) .0))
+    (sym (pass-measured (a .write) (a .buffer .now) (a .at) s (not-true _ (c .if2 .taken))))
 
 copy-to-requires : tie.Need-copy-to-requires
 copy-to-requires c κs =
-    let a = c .before .before .before .before .before .before .before .args in
-    omega (arith, fits (c .before), line-parts (a .word .now) (a .numbers .now))
+    let k = c .before .before in
+    let a = k .before .before .before .before .before .before .before .before .args in
+    omega (arith, measured k, line-parts (a .word .now) (a .numbers .now))
 
 numbers-to-requires : tie.Need-numbers-to-requires
 numbers-to-requires c κs =
     let called = c .before .before .before in
-    let e = called .before .before in
-    let a = e .before .before .before .before .before .before .args in
-    omega (arith, fits e, line-parts (a .word .now) (a .numbers .now), called .copy-to .ensures .0, called .copy-to .kept .0)
+    let k = called .before .before .before in
+    let a = k .before .before .before .before .before .before .before .before .args in
+    omega (arith, measured k, line-parts (a .word .now) (a .numbers .now), called .copy-to .ensures .0, called .copy-to .kept .0)
 
 same-length : tie.Need-same-length
 same-length c = search needs
 
-returns-3 : tie.Need-returns-3
-returns-3 c =
+returns-4 : tie.Need-returns-4
+returns-4 c =
     let last = c .before .before in
     let first = last .before .before .before .before in
     let e = first .before .before in
-    let a = e .before .before .before .before .before .before .args in
-    let line : List ℕ = drawLine (a .word .now) (a .numbers .now) in
-    let p = put-fits (a .buffer .now) (a .at) line (fits e) in
-    put-told (a .buffer .now) (a .at) line _ _
-    (ap Behind (last .numbers-to .ensures .0 ∙ omega (arith, line-parts (a .word .now) (a .numbers .now), first .copy-to .ensures .0)) ∙ sym (p .0))
+    let k = e .before in
+    let a = k .before .before .before .before .before .before .before .before .args in
+    let s : List ℕ = line (k .before .before .before .before .before) in
+    let fits : a .at + length s ≤ length (a .buffer .now) = omega (arith, measured k) in
+    pass-told (a .write) (a .buffer .now) (a .at) s _ _
+    (ap Behind (last .numbers-to .ensures .0 ∙ omega (arith, line-parts (a .word .now) (a .numbers .now), first .copy-to .ensures .0)) ∙ sym (put-fits (a .buffer .now) (a .at) s fits .0))
     (last .numbers-to .ensures .1
-    ∙ rw (first .copy-to .ensures .0, first .copy-to .ensures .1) (overwrite-append (a .buffer .now) (a .at) (a .word .now) (drawLine [] (a .numbers .now)) (omega (arith, fits e)))
+    ∙ rw (first .copy-to .ensures .0, first .copy-to .ensures .1) (overwrite-append (a .buffer .now) (a .at) (a .word .now) (drawLine [] (a .numbers .now)) (omega arith))
     ∙ ap (overwrite (a .buffer .now) (a .at)) (sym (line-behind (a .word .now) (a .numbers .now)))
-    ∙ sym (p .1))
+    ∙ sym (pass-fits (a .write) (a .buffer .now) (a .at) s (not-false _ (e .if2 .left)) fits))
 
 pub put-form-spec : {M : Type 1} → statement M
 put-form-spec =
     tie.close
     (tie.spec
     returns
-    sub-line-fits
-    line-fits-requires
+    sub-line-rest
+    line-rest-requires
+    enum-known-rest
+    enum-told
     returns-2
+    sub-t13
+    returns-3
     copy-to-requires
     numbers-to-requires
     same-length
-    returns-3)
+    returns-4)

@@ -1,0 +1,67 @@
+-- Where the events of a taken plan start: within the text, at least 4 bytes behind its start, and on a line whose number is at most one above that place.
+use Prim.Native.Nat.{ℕ, _+_, _≤_, _<_}
+use mathlib.Core.Path.{_≡_, sym, ap, _∙_}
+use mathlib.Core.List.{List, [], _∷_}
+use native.Mathlib.Omega.{arith}
+use lib.ListN.{length, length-append}
+use Rattle.text.specs.Line.{Lines, ended, lines, drawLines}
+use Rattle.text.specs.Form.{drawForm}
+use Rattle.text.specs.declared.Cursor.{Cursor}
+use Rattle.text.proofs.Lines.{draw-lines}
+use Rattle.plan.specs.Kind.{frame-word, overhead-word, interrupt-word, close-word, node-word, empty-word, hub-word}
+use Rattle.plan.specs.Reading.{Figures, next}
+use Rattle.plan.specs.Tree.{Port, node, empty, hub, Hub, close, port, drawPort, drawHub, draw}
+use Rattle.plan.specs.Behind.{pastPort, pastHub, pastFigures, past}
+use Rattle.plan.specs.Taken.{TakenAs}
+use Rattle.plan.proofs.Tree.TakenDrawn.{taken-drawn}
+use Rattle.plan.proofs.Tree.Taken.{taken-of}
+
+-- from cursor c, where `ls` stand, to cursor d, where `rest` stand: each line on the way has its LF at least
+record Onward (c d : Cursor) (ls rest : Lines) : Type 0 where
+  bytes : c .at + length (drawLines ls) ≡ d .at + length (drawLines rest)
+  further : c .at < d .at
+  early : d .number + c .at ≤ c .number + d .at
+
+over-line : (c : Cursor) (l : List ℕ) (rest : Lines) → Onward c (next c l) (ended l rest) rest
+unfolding drawLines
+over-line c l rest = record { bytes = omega (arith, length-append l (10 ∷ drawLines rest)); further = omega arith; early = omega arith }
+
+and-on : {c d e : Cursor} {ls ms rest : Lines} → Onward c d ls ms → Onward d e ms rest → Onward c e ls rest
+and-on a b = record { bytes = a .bytes ∙ b .bytes; further = omega arith; early = omega arith }
+
+mutual
+  unfolding drawPort pastPort
+
+  over-port : (x : Port) (c : Cursor) (rest : Lines) → Onward c (pastPort x c) (drawPort x rest) rest
+  over-port node c rest = over-line c node-word rest
+  over-port empty c rest = over-line c empty-word rest
+  over-port (hub h) c rest = and-on (over-line c hub-word (drawHub h rest)) (over-hub h (next c hub-word) rest)
+
+  over-hub : (h : Hub) (c : Cursor) (rest : Lines) → Onward c (pastHub h c) (drawHub h rest) rest
+  over-hub close c rest = over-line c close-word rest
+  over-hub (port x h) c rest = and-on (over-port x c (drawHub h rest)) (over-hub h (pastPort x c) rest)
+
+pub record Placed (text : List ℕ) (at line : ℕ) : Type 0 where
+  pub some : 4 ≤ at
+  pub inside : at ≤ length text
+  pub early : line ≤ at + 1
+
+-- three figures and the root's line come before the root's ports
+draw-placed : (text : List ℕ) (fig : Figures) (h : Hub) (rest : Lines) → lines text ≡ draw fig h rest → Placed text (past fig h .at) (past fig h .number)
+unfolding draw past pastFigures
+draw-placed text fig h rest e =
+    let c₀ : Cursor = record { at = 0; number = 1 } in
+    let c₁ : Cursor = next c₀ (drawForm frame-word (fig .frame ∷ [])) in
+    let c₂ : Cursor = next c₁ (drawForm overhead-word (fig .overhead ∷ [])) in
+    let c₃ : Cursor = next c₂ (drawForm interrupt-word (fig .interrupt ∷ [])) in
+    let root = and-on (over-line c₃ hub-word (drawHub h rest)) (over-hub h (next c₃ hub-word) rest) in
+    let all : Onward c₀ (past fig h) (draw fig h rest) rest = and-on (over-line c₀ _ _) (and-on (over-line c₁ _ _) (and-on (over-line c₂ _ _) root)) in
+    let whole : length text ≡ length (drawLines (draw fig h rest)) = ap length (sym (draw-lines text) ∙ ap drawLines e) in
+    record { some = omega arith; inside = omega arith; early = omega arith }
+
+pub placed : (text : List ℕ) (nodes hubs at line : ℕ) → TakenAs text nodes hubs at line → Placed text at line
+placed text nodes hubs at line t =
+    let d = taken-drawn text nodes hubs at line t in
+    let o = taken-of text nodes hubs at line t d in
+    let q = draw-placed text (d .fig) (d .tree) (d .rest) (d .drawn) in
+    record { some = omega (arith, o .samePlace); inside = omega (arith, o .samePlace); early = omega (arith, o .samePlace, o .sameLine) }
