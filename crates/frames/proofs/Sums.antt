@@ -4,7 +4,7 @@ use mathlib.Core.Path.{_≡_, refl, sym, ap, _∙_}
 use mathlib.Core.List.{List}
 use native.Mathlib.Omega.{arith}
 use native.Mathlib.Numerals.{unary-clauses}
-use native.Mathlib.Nat.{mul-le-mul}
+use native.Mathlib.Nat.{zero-add, mul-le-mul}
 use lib.ListN.{getD}
 use borrow.Author.Tests.{le-leb}
 use Rattle.rules.specs.Choice.{sum}
@@ -32,23 +32,27 @@ abbrev pub cellLoad : List ℕ → List ℕ → ℕ → ℕ
 cellLoad P s k = load (planIn P) (shareOf (getD s (latestCell k) 0))
 
 module _ (P s : List ℕ) (n : ℕ) where
-  pub no-load : n ≡ 0 → 0 ≡ sum n (cellLoad P s)
+  pub no-load : (others : ℕ) → n ≡ 0 → others ≡ others + sum n (cellLoad P s)
   unfolding sum
-  no-load e = rw e
+  no-load others e = rw e (omega arith)
 
-  pub one-load-more :
-      (less own : ℕ) →
+  -- node n's load goes onto the others, and then those of the nodes below it
+  pub one-load-onto :
+      (others own r : ℕ) →
       (n ≡ 0 → ⊥) →
-      less ≡ sum (n - 1) (cellLoad P s) →
       own ≡ getD s (latestCell n) 0 / 65536 * (getD s (latestCell n) 0 % 65536 + getD P 1 0) →
-      less + own ≡ sum n (cellLoad P s)
+      r ≡ others + own + sum (n - 1) (cellLoad P s) →
+      r ≡ others + sum n (cellLoad P s)
   unfolding planOf
-  one-load-more less own h l o = rw (l, o) (sum-more n (cellLoad P s) h)
+  one-load-onto others own r h o l =
+      let e : own ≡ cellLoad P s n = o in
+      omega (arith, sum-more n (cellLoad P s) h)
 
   -- within the nodes the guard of `latest` is met
-  pub latest-loads : (r : ℕ) → n ≡ planIn P .nodes → r ≡ sum n (cellLoad P s) → r ≡ loads (planIn P) (coreOf (planIn P) s .latest)
+  pub latest-loads : (r : ℕ) → n ≡ planIn P .nodes → r ≡ 0 + sum n (cellLoad P s) → r ≡ loads (planIn P) (coreOf (planIn P) s .latest)
   unfolding coreOf
   latest-loads r e h =
       h
+      ∙ zero-add _
       ∙ ap (λ (m : ℕ). sum m (cellLoad P s)) e
       ∙ sum-same (planIn P .nodes) _ _ (λ k w. sym (simp (le-leb 1 k (w .low), le-leb k (planIn P .nodes) (w .up))))

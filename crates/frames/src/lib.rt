@@ -119,17 +119,18 @@ fn small_load(overhead: u32, share: u32) -> u64
     load(overhead, share)
 }
 
-// The loads of nodes n to 1.
-fn loads_to(p: &Plan, s: &Cascade, n: u32) -> u64
+// The loads of nodes n to 1 on top of a sum. The call of itself is the last thing, so that the compiler makes a loop of it: 256 calls in one another are slow.
+fn loads_onto(p: &Plan, s: &Cascade, n: u32, others: u64) -> u64
     requires { ⌜ n ≤ 256 ⌝ }
-    ensures { λ r. ⌜ r ≡ sum n (λ k. load (planIn (now (p .entry))) (shareOf (getD (now (s .entry)) (latestCell k) 0))) ⌝ }
-    ensures { λ r. ⌜ r ≤ n * 1125899906842624 ⌝ }
+    requires { ⌜ others + n * 1125899906842624 ≤ 288230376151711744 ⌝ }
+    ensures { λ r. ⌜ r ≡ others + sum n (λ k. load (planIn (now (p .entry))) (shareOf (getD (now (s .entry)) (latestCell k) 0))) ⌝ }
+    ensures { λ r. ⌜ r ≤ others + n * 1125899906842624 ⌝ }
 {
     if n == 0 {
-        return 0;
+        return others;
     }
     let at = 136 + (n as usize - 1) * 4 + 2;
-    loads_to(p, s, n - 1) + small_load(p[1], s[at])
+    loads_onto(p, s, n - 1, others + small_load(p[1], s[at]))
 }
 
 // The sum of n × (b + O) over all nodes, by their latest accepted reservations.
@@ -137,5 +138,5 @@ pub fn loads(p: &Plan, s: &Cascade) -> u64
     ensures { λ r. ⌜ r ≡ loads (planIn (now (p .entry))) (coreOf (planIn (now (p .entry))) (now (s .entry)) .latest) ⌝ }
     ensures { λ r. ⌜ r ≤ 288230376151711744 ⌝ }
 {
-    loads_to(p, s, nodes(p))
+    loads_onto(p, s, nodes(p), 0)
 }

@@ -10,49 +10,25 @@ use borrow.Author.Tests.{leb-true, leb-false}
 use lib.Dec.{leb}
 use lib.ListN.{length, length-append}
 use Rattle.rules.proofs.Choices.{Which, which, yes′, no′}
-use Rattle.writer.specs.Write.{overwrite, putAnswer, putBuffer, passBuffer}
+use Rattle.writer.specs.Write.{putAnswer, putBuffer, passBuffer}
 use Rattle.writer.specs.declared.Put.{Put}
 use Rattle.writer.specs.declared.Put.the-variants.{Behind, Short}
-use Rattle.writer.proofs.Writes.{overwrite-none, overwrite-length, overwrite-append, put-fits, put-short}
+use Rattle.writer.proofs.Writes.{put-fits, put-short, pass-length, pass-none, pass-append}
 use Rattle.logbook.specs.Cells.{Written, thenLines, putLines}
-
--- what a pass leaves of a buffer in which the bytes fit
-abbrev passed : Bool → List ℕ → ℕ → List ℕ → List ℕ
-passed true buffer at bytes = overwrite buffer at bytes
-passed false buffer at bytes = buffer
-
-pass-fits : (write : Bool) (d : List ℕ) (at : ℕ) (s : List ℕ) → at + length s ≤ length d → passBuffer write d at s ≡ passed write d at s
-unfolding passBuffer
-pass-fits true d at s h = put-fits d at s h .1
-pass-fits false d at s h = refl
-
-passed-length : (write : Bool) (d : List ℕ) (at : ℕ) (s : List ℕ) → at + length s ≤ length d → length (passed write d at s) ≡ length d
-passed-length true d at s h = overwrite-length d at s h
-passed-length false d at s h = refl
-
-passed-none : (write : Bool) (d : List ℕ) (at : ℕ) → passed write d at [] ≡ d
-passed-none true d at = overwrite-none d at
-passed-none false d at = refl
-
-passed-append : (write : Bool) (d : List ℕ) (at : ℕ) (s t : List ℕ) → at ≤ length d → passed write (passed write d at s) (at + length s) t ≡ passed write d at (s ++ t)
-passed-append true d at s t h = overwrite-append d at s t h
-passed-append false d at s t h = refl
 
 -- all lines fit
 pub lines-fit : (write : Bool) (ls : List (List ℕ)) (d : List ℕ) (at : ℕ) → at + length (flatten ls) ≤ length d
-    → putLines write ls d at ≡ record { put = Behind (at + length (flatten ls)); buffer = passed write d at (flatten ls) }
+    → putLines write ls d at ≡ record { put = Behind (at + length (flatten ls)); buffer = passBuffer write d at (flatten ls) }
 unfolding putLines flatten
-lines-fit write [] d at h = λ i. record { put = Behind (sym (add-zero at) i); buffer = sym (passed-none write d at) i }
+lines-fit write [] d at h = λ i. record { put = Behind (sym (add-zero at) i); buffer = sym (pass-none write d at) i }
 lines-fit write (l ∷ ls) d at h =
     let e : length (l ++ flatten ls) ≡ length l + length (flatten ls) = length-append l (flatten ls) in
-    let one : at + length l ≤ length d = omega arith in
-    let rest : at + length l + length (flatten ls) ≤ length (passed write d at l) = omega (arith, passed-length write d at l one) in
-    ap (λ (p : Put). thenLines (putLines write ls) p (passBuffer write d at l)) (put-fits d at l one .0)
-    ∙ ap (λ (b : List ℕ). putLines write ls b (at + length l)) (pass-fits write d at l one)
-    ∙ lines-fit write ls (passed write d at l) (at + length l) rest
+    let rest : at + length l + length (flatten ls) ≤ length d = omega arith in
+    ap (λ (p : Put). thenLines (putLines write ls) p (passBuffer write d at l)) (put-fits d at l (omega arith) .0)
+    ∙ lines-fit write ls (passBuffer write d at l) (at + length l) (omega (arith, pass-length write d at l))
     ∙ (λ i. record {
       put = Behind ((add-assoc at (length l) (length (flatten ls)) ∙ ap (λ (n : ℕ). at + n) (sym e)) i);
-      buffer = passed-append write d at l (flatten ls) (omega arith) i;
+      buffer = pass-append write d at l (flatten ls) rest i;
     })
 
 -- one of them doesn't
@@ -67,11 +43,10 @@ module _ (write : Bool) (l : List ℕ) (ls : List (List ℕ)) (again : TooLong w
       go : Which (leb (at + length l) (length d)) → thenLines (putLines write ls) (putAnswer d at l) (passBuffer write d at l) .put ≡ Short
       go (yes′ y) =
           let one = leb-true (at + length l) (length d) y in
-          let same = passed-length write d at l one in
+          let same = pass-length write d at l in
           let e : length (l ++ flatten ls) ≡ length l + length (flatten ls) = length-append l (flatten ls) in
           ap (λ (p : Put). thenLines (putLines write ls) p (passBuffer write d at l) .put) (put-fits d at l one .0)
-          ∙ ap (λ (b : List ℕ). putLines write ls b (at + length l) .put) (pass-fits write d at l one)
-          ∙ again (passed write d at l) (at + length l) (omega arith) (omega arith)
+          ∙ again (passBuffer write d at l) (at + length l) (omega arith) (omega arith)
       go (no′ n) =
           ap (λ (p : Put). thenLines (putLines write ls) p (passBuffer write d at l) .put) (put-short d at l (leb-false (at + length l) (length d) n) .0)
 
@@ -105,4 +80,5 @@ module _ (ls : List (List ℕ)) (d : List ℕ) where
 
   -- and the buffer, where they fit
   pub all-written : 0 + length (flatten ls) ≤ length d → putLines true ls d 0 .buffer ≡ putBuffer d 0 (flatten ls)
-  all-written h = ap (λ (w : Written). w .buffer) (lines-fit true ls d 0 h) ∙ sym (put-fits d 0 (flatten ls) h .1)
+  unfolding passBuffer
+  all-written h = ap (λ (w : Written). w .buffer) (lines-fit true ls d 0 h)

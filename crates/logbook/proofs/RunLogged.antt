@@ -1,7 +1,7 @@
 -- A pass over the lent tables and the lent buffer writes, or measures, the log of the text: it answers as writing the log's lines one by one does, and leaves
 -- the same buffer.
 use Prim.Native.Nat.{ℕ, suc}
-use mathlib.Core.Path.{_≡_, refl, ap, subst}
+use mathlib.Core.Path.{_≡_, refl, subst}
 use mathlib.Core.Bool.{Bool}
 use mathlib.Core.List.{List, [], _∷_}
 use native.Mathlib.Omega.{arith}
@@ -20,7 +20,7 @@ use Rattle.state.specs.Decode.{planIn}
 use Rattle.state.specs.Fresh.{freshCells}
 use Rattle.tie.proofs.ReadyPlan.{plan-in, ready}
 use Rattle.logbook.specs.Log.{eventsLog, planLog, logOf}
-use Rattle.logbook.specs.Cells.{Written, putLines, goingOn, line, behindPlan, passBy}
+use Rattle.logbook.specs.Cells.{putLines, goingOn, line, behindPlan, passBy}
 use Rattle.logbook.proofs.Writing.{writtenBy, Writes, writes-none, writes-line, writes-on}
 use Rattle.logbook.proofs.Leading.{fresh-leads}
 use Rattle.logbook.proofs.EventsLogged.{events-log}

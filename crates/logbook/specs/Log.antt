@@ -1,6 +1,5 @@
 -- "The log": the lines that the program writes for a text.
 use Prim.Native.Nat.{ℕ, zero, suc, _+_, _*_}
-use mathlib.Core.Bool.{Bool, true, false}
 use mathlib.Core.List.{List, [], _∷_, _++_, flatten}
 use mathlib.Core.Option.{Option, none, some}
 use lib.ListN.{drop}
@@ -11,13 +10,13 @@ use Rattle.rules.specs.Call.{Call, step, time, Answer, taken, refused, grant, r
 use Rattle.rules.specs.Core.{Core, Request, standing, Line, resting, busy}
 use Rattle.rules.specs.Core as core
 use Rattle.rules.specs.Rows.{row11}
-use Rattle.rules.specs.Machine.{Hub, Outcome, perform}
+use Rattle.rules.specs.Machine.{Hub, perform}
 use Rattle.rules.specs.Control.{Control, control}
 use Rattle.rules.specs.Run.{freshHub}
 use Rattle.plan.specs.declared.Answer as plan
 use Rattle.plan.specs.declared.Answer.the-variants.{Taken, Refused}
 use Rattle.plan.specs.Tables.{planOf}
-use Rattle.plan.specs.Reading.{Read, reading}
+use Rattle.plan.specs.Reading.{reading}
 use Rattle.log.specs.Handed.{handed}
 use Rattle.log.specs.FirstLine.{nodesLine, refusedLine}
 use Rattle.events.specs.Event.{eventOf, callOf}

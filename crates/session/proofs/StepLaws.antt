@@ -10,7 +10,7 @@ use Rattle.writer.specs.declared.Put.{Put}
 use Rattle.writer.specs.declared.Put.the-variants.{Behind, Short}
 use Rattle.lines.specs.Lines.{stepLine}
 use Rattle.state.specs.declared.Step.{Step}
-use Rattle.state.specs.Calls.{stepBy, StepPromise}
+use Rattle.state.specs.Calls.{StepPromise}
 use Rattle.logbook.specs.Cells.{Run, line, goingOn, more, stepsBy}
 use Rattle.session.proofs.Ran.{Ran, ran-same, onward, halted}
 

@@ -1,13 +1,11 @@
 -- A pass that measures, and one that writes behind it where the log fits: together all of the log, or nothing.
-use Prim.Native.Nat.{ℕ, _+_, _≤_}
+use Prim.Native.Nat.{ℕ, _≤_}
 use mathlib.Core.Path.{_≡_, refl, sym, ap, _∙_}
-use mathlib.Core.Bool.{Bool, true, false}
+use mathlib.Core.Bool.{true, false}
 use mathlib.Core.List.{List}
 use native.Mathlib.Omega.{arith}
-use lib.Dec.{leb}
 use lib.ListN.{length}
 use borrow.Author.Tests.{le-leb, leb-true, leb-false}
-use Rattle.rules.specs.Choice.{if_then_else_}
 use Rattle.rules.proofs.Choices.{Which, which, yes′, no′}
 use Rattle.rules.proofs.Clash.{clash}
 use Rattle.writer.specs.Write.{fits, putAnswer, putBuffer}
@@ -21,7 +19,6 @@ use Rattle.logbook.specs.Cells.{Written, passBy, planLeft, cellsLeft}
 use Rattle.logbook.proofs.RunLogged.{pass-writes}
 use Rattle.logbook.proofs.LogLength.{log-bound}
 use Rattle.logbook.proofs.AtOnce.{measured, at-once, all-written}
-use Rattle.session.proofs.Ran.{Ran}
 
 -- what the answer says of the buffer's room
 short-not : (d : List ℕ) (at : ℕ) (bytes : List ℕ) → Short ≡ putAnswer d at bytes → fits d at bytes ≡ false

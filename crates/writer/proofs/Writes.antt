@@ -116,6 +116,20 @@ unfolding passBuffer
 pass-none true d at = put-none d at
 pass-none false d at = refl
 
+-- bytes behind bytes, where both fit
+pub pass-append : (w : Bool) (d : List ℕ) (at : ℕ) (s t : List ℕ) → at + length s + length t ≤ length d
+    → passBuffer w (passBuffer w d at s) (at + length s) t ≡ passBuffer w d at (s ++ t)
+unfolding passBuffer
+pass-append true d at s t h =
+    let both : at + length (s ++ t) ≤ length d = omega (arith, length-append s t) in
+    let one = put-fits d at s (omega arith) .1 in
+    let again : at + length s + length t ≤ length (putBuffer d at s) = omega (arith, put-length d at s) in
+    put-fits (putBuffer d at s) (at + length s) t again .1
+    ∙ ap (λ (b : List ℕ). overwrite b (at + length s) t) one
+    ∙ overwrite-append d at s t (omega arith)
+    ∙ sym (put-fits d at (s ++ t) both .1)
+pass-append false d at s t h = refl
+
 -- how much of a room n bytes leave over
 module _ (n room : ℕ) where
   pub rest-over : (left : ℕ) → n + left ≡ room → Behind left ≡ answered (leb n room) (room - n)
