@@ -1,5 +1,5 @@
 -- What a count up the ports answers, and that nothing else fits: the facts that decide it, over the count n.
-use mathlib.Core.Path.{_≡_, refl, sym, ap, _∙_}
+use mathlib.Core.Path.{_≡_, refl, sym, ap, ap₂, _∙_}
 use mathlib.Core.Bool.{Bool, true, false, true≢false}
 use mathlib.Core.Logic.{_⊎_, inl, inr}
 use Prim.Native.Nat.{ℕ, zero, suc, _+_, _≤_, _<_}
@@ -54,3 +54,11 @@ answers-agree f q e (Port p) (Port p′) a b =
 answers-agree f q e (Port p) Nothing a b = absurd (missed f q e p (a .member) (a .from) (a .within) b)
 answers-agree f q e Nothing (Port p) a b = absurd (missed f q e p (b .member) (b .from) (b .within) a)
 answers-agree f q e Nothing Nothing a b = refl
+
+-- the same ports, the same answer
+pub first-cong : (n : ℕ) (f g : ℕ → Bool) (q : ℕ) → ((p : ℕ) → q ≤ p → p < q + n → f p ≡ g p) → firstOf n f q ≡ firstOf n g q
+unfolding firstOf
+first-cong zero f g q e = refl
+first-cong (suc n) f g q e =
+    ap₂ (λ (b : Bool) (rest : Found). orElse b (Port q) rest) (e q (omega arith) (omega arith))
+    (first-cong n f g (suc q) (λ p l h. e p (omega arith) (omega arith)))

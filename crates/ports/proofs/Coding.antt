@@ -25,6 +25,10 @@ shows-low a k r p h l =
     ap (λ (n : ℕ). shows n p) (sym (or-shifted a k r h)) ∙ shows-or (a * 2 ^ k) r p
     ∙ ap (λ (b : Bool). b || shows r p) (shl-shows-none a k p l)
 
+-- so a number keeps its ports up to k where it is cut to k digits
+pub shows-cut : (k m p : ℕ) → p ≤ k → shows (m % 2 ^ k) p ≡ shows m p
+shows-cut k m p l = sym (shows-low (m / 2 ^ k) k (m % 2 ^ k) p (mod-lt m (pow-pos k)) l) ∙ ap (λ (n : ℕ). shows n p) (split m k)
+
 shows-top : (a k r : ℕ) → r < 2 ^ k → shows (a * 2 ^ k + r) (suc k) ≡ eqb (a % 2) 1
 unfolding shows
 shows-top a k r h = ap (λ (n : ℕ). eqb (n % 2) 1) (high a k h)
@@ -74,11 +78,8 @@ unfolding maskUpTo shows
 mask-shows zero m h = omega arith
 mask-shows (suc k) m h =
     ap₂ (λ (x y : ℕ). x * 2 ^ k + y) (odd-digit (m / 2 ^ k) (shr-lt 1 k (rw one-add h)))
-    (mask-cong k (shows m) (shows (m % 2 ^ k)) low ∙ mask-shows k (m % 2 ^ k) (mod-lt m (pow-pos k)))
+    (mask-cong k (shows m) (shows (m % 2 ^ k)) (λ p l q. sym (shows-cut k m p q)) ∙ mask-shows k (m % 2 ^ k) (mod-lt m (pow-pos k)))
     ∙ split m k
-  where
-    low : Same k (shows m) (shows (m % 2 ^ k))
-    low p l q = ap (λ (n : ℕ). shows n p) (sym (split m k)) ∙ shows-low (m / 2 ^ k) k (m % 2 ^ k) p (mod-lt m (pow-pos k)) q
 
 -- so a number of k digits is the mask of any set with the ports that it shows
 pub is-mask : (k m : ℕ) (f : ℕ → Bool) → m < 2 ^ k → Same k (shows m) f → m ≡ maskUpTo k f

@@ -9,10 +9,9 @@ use Rattle.ports.specs.Mask.{shows, maskOf}
 use Rattle.ports.specs.Search.{lowestFrom}
 use Rattle.ports.specs.declared.Found.{Found}
 use Rattle.ports.specs.declared.Found.the-variants.{Port, Nothing}
-use Rattle.ports.proofs.Answers.{Answers, first-answers, answers-agree}
+use Rattle.ports.proofs.Answers.{Answers, first-answers, answers-agree, first-cong}
 use Rattle.ports.proofs.Coding.{Same, shows-mask}
 use Rattle.ports.proofs.Pointing.{after-kept, after-member, after-none}
-use Rattle.ports.proofs.Searching.{first-cong}
 
 -- ---- the lowest port at or after a pointer
 

@@ -4,7 +4,7 @@ pub mod Coding
 pub mod Pointing
 pub mod Changing
 pub mod Building
-pub mod Searching
 pub mod Answers
 pub mod Laws
+pub mod Searching
 pub mod Summaries

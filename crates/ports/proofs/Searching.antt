@@ -1,86 +1,94 @@
--- Counting up the ports of a mask stops where its trailing zeros end, at any width k.
-use mathlib.Core.Path.{_≡_, refl, sym, ap, ap₂, _∙_}
-use mathlib.Core.Bool.{Bool, true, false}
-use Prim.Native.Nat.{ℕ, zero, suc, _+_, _/_, _%_, _≤_, _<_}
-use native.Mathlib.Nat.{mod-lt, zero-lt-suc}
-use native.Mathlib.Numerals.{add-one}
+-- The search on a turned mask: the port behind its trailing zeros, turned back, is the lowest at or after the pointer, unless it has gone round.
+use mathlib.Core.Path.{_≡_, sym, ap, ap₂, _∙_}
+use mathlib.Core.Bool.{Bool, true, false, _||_, or-self, or-false}
+use Prim.Native.Nat.{ℕ, zero, suc, _+_, _-_, _*_, _/_, _%_, _^_, _≤_, _<_}
+use native.Mathlib.Nat.{mod-lt, mod-self, mod-eq-of-lt, mul-one, sub-zero, zero-add, zero-lt-suc}
 use native.Mathlib.Omega.{arith}
-use borrow.Author.Tests.{lt-ltb, le-ltb}
+use lib.Bits.{bitOr}
 use lib.Count.{trailingZeros, under}
-use lib.Dec.{eqb, ltb, leb·suc-suc}
-use Rattle.ports.specs.Ports.{ports, atOrAfter}
-use Rattle.ports.specs.Mask.{shows, maskUpTo, maskOf}
-use Rattle.ports.specs.Search.{firstOf, orElse, lowestFrom}
-use Rattle.ports.specs.declared.Found.{Found}
+use lib.Dec.{eqb}
+use Rattle.ports.specs.Ports.{ports}
+use Rattle.ports.specs.Mask.{shows}
+use Rattle.ports.specs.Search.{lowestFrom}
 use Rattle.ports.specs.declared.Found.the-variants.{Port, Nothing}
-use Rattle.ports.proofs.Bits.{shows-first, shows-half}
-use Rattle.ports.proofs.Coding.{shows-mask}
+use Rattle.ports.proofs.Bits.{shows-first, shows-half, shows-shr, shl-shows-none, shows-or}
+use Rattle.ports.proofs.Coding.{shows-cut}
+use Rattle.ports.proofs.Laws.{right-lowest}
 
-pub first-cong : (n : ℕ) (f g : ℕ → Bool) (q : ℕ) → ((p : ℕ) → q ≤ p → p < q + n → f p ≡ g p) → firstOf n f q ≡ firstOf n g q
-unfolding firstOf
-first-cong zero f g q e = refl
-first-cong (suc n) f g q e =
-    ap₂ (λ (b : Bool) (rest : Found). orElse b (Port q) rest) (e q (omega arith) (omega arith))
-    (first-cong n f g (suc q) (λ p l h. e p (omega arith) (omega arith)))
+-- ---- trailing zeros, at any width k
 
--- ---- one port further
-
-next : Found → Found
-next (Port p) = Port (suc p)
-next Nothing = Nothing
-
-next-or-else : (b : Bool) (x y : Found) → next (orElse b x y) ≡ orElse b (next x) (next y)
-next-or-else true x y = refl
-next-or-else false x y = refl
-
-first-next : (n : ℕ) (f : ℕ → Bool) (q : ℕ) → firstOf n f (suc q) ≡ next (firstOf n (λ p. f (suc p)) q)
-unfolding firstOf next
-first-next zero f q = refl
-first-next (suc n) f q =
-    ap (λ (rest : Found). orElse (f (suc q)) (Port (suc q)) rest) (first-next n f (suc q))
-    ∙ sym (next-or-else (f (suc q)) (Port q) (firstOf n (λ p. f (suc p)) (suc q)))
-
--- ---- trailing zeros
-
--- the port behind t zeros of k digits, if there is one
-abbrev pub behind : ℕ → ℕ → Found
-behind k t = orElse (ltb t k) (Port (suc t)) Nothing
-
-pub behind-port : (k t : ℕ) → t < k → behind k t ≡ Port (t + 1)
-behind-port k t h = simp (lt-ltb t k h, add-one)
-
-pub behind-nothing : (k t : ℕ) → k ≤ t → behind k t ≡ Nothing
-behind-nothing k t h = simp (le-ltb t k h)
-
-next-behind : (k t : ℕ) → next (behind k t) ≡ behind (suc k) (suc t)
-unfolding next
-next-behind k t = next-or-else (ltb t k) (Port (suc t)) Nothing ∙ ap (λ (b : Bool). orElse b (Port (suc (suc t))) Nothing) (sym (leb·suc-suc (suc t) k))
-
-shows-rest : (m p : ℕ) → 1 ≤ p → shows m (suc p) ≡ shows (m / 2) p
-shows-rest m zero l = absurd (omega arith)
-shows-rest m (suc i) l = sym (shows-half m i)
-
--- an odd number shows port 1, and an even one's first port is one further than its half's
-pub first-trailing : (k m : ℕ) → firstOf k (shows m) 1 ≡ behind k (trailingZeros k m)
-unfolding firstOf trailingZeros
-first-trailing zero m = refl
-first-trailing (suc k) m =
-    ap₂ (λ (b : Bool) (rest : Found). orElse b (Port 1) rest) (shows-first m)
-    (first-next k (shows m) 1
-    ∙ ap next (first-cong k (λ p. shows m (suc p)) (shows (m / 2)) 1 (λ p l h. shows-rest m p l) ∙ first-trailing k (m / 2)))
-    ∙ go (m % 2) (trailingZeros k (m / 2)) (mod-lt m (zero-lt-suc 1))
+pub zeros-none : (k m i : ℕ) → i < trailingZeros k m → shows m (suc i) ≡ false
+unfolding trailingZeros
+zeros-none zero m i h = absurd (omega arith)
+zeros-none (suc k) m i h = go (m % 2) i (shows-first m) (λ j. zeros-none k (m / 2) j) h
   where
-    go : (r t : ℕ) → r < 2 → orElse (eqb r 1) (Port 1) (next (behind k t)) ≡ behind (suc k) (under r t)
-    go zero t h = next-behind k t
-    go (suc zero) t h = sym (behind-port (suc k) 0 (omega arith))
-    go (suc (suc r)) t h = absurd (omega arith)
+    go : (r i : ℕ) → shows m 1 ≡ eqb r 1 → ((j : ℕ) → j < trailingZeros k (m / 2) → shows (m / 2) (suc j) ≡ false)
+        → i < under r (trailingZeros k (m / 2)) → shows m (suc i) ≡ false
+    go zero zero first rest h = first
+    go zero (suc j) first rest h = sym (shows-half m j) ∙ rest j (omega arith)
+    go (suc r) i first rest h = absurd (omega arith)
 
--- the first port of a set stands behind the trailing zeros of its mask
-pub first-mask : (k : ℕ) (f : ℕ → Bool) → firstOf k f 1 ≡ behind k (trailingZeros k (maskUpTo k f))
-first-mask k f =
-    first-cong k f (shows (maskUpTo k f)) 1 (λ p l h. sym (shows-mask k f p l (omega arith))) ∙ first-trailing k (maskUpTo k f)
+pub behind-zeros : (k m : ℕ) → trailingZeros k m < k → shows m (suc (trailingZeros k m)) ≡ true
+unfolding trailingZeros
+behind-zeros zero m h = absurd (omega arith)
+behind-zeros (suc k) m h = go (m % 2) (mod-lt m (zero-lt-suc 1)) (shows-first m) (behind-zeros k (m / 2)) h
+  where
+    t : ℕ
+    t = trailingZeros k (m / 2)
 
--- so the lowest port at or after a pointer stands behind those of a mask with the ports below the pointer cleared
-pub lowest-behind : (f : ℕ → Bool) (pointer m : ℕ) → m ≡ maskOf (atOrAfter pointer f) → lowestFrom f pointer ≡ behind ports (trailingZeros ports m)
-unfolding lowestFrom
-lowest-behind f pointer m e = first-mask ports (atOrAfter pointer f) ∙ ap (λ (n : ℕ). behind ports (trailingZeros ports n)) (sym e)
+    go : (r : ℕ) → r < 2 → shows m 1 ≡ eqb r 1 → (t < k → shows (m / 2) (suc t) ≡ true) → under r t < suc k → shows m (suc (under r t)) ≡ true
+    go zero l first rest h = sym (shows-half m t) ∙ rest (omega arith)
+    go (suc zero) l first rest h = first
+    go (suc (suc r)) l first rest h = absurd (omega arith)
+
+-- ---- turning, at any width k
+
+-- n shows the ports of m above b, each b lower
+abbrev pub Turned : ℕ → ℕ → ℕ → ℕ → Type 0
+Turned k b m n = (i : ℕ) → b + i < k → shows n (suc i) ≡ shows m (suc (b + i))
+
+-- the ports up to b come round behind the others; where b is 0 every port stays
+pub turned : (k b m : ℕ) → b < k → Turned k b m (bitOr (m / 2 ^ b) (m * 2 ^ ((k - b) % k) % 2 ^ k))
+turned k b m l i r =
+    shows-or (m / 2 ^ b) (m * 2 ^ ((k - b) % k) % 2 ^ k) (suc i)
+    ∙ ap₂ (λ (x y : Bool). x || y) (shows-shr m b i) (shows-cut k (m * 2 ^ ((k - b) % k)) (suc i) (omega arith))
+    ∙ go b l r
+  where
+    go : (b : ℕ) → b < k → b + i < k → (shows m (suc (b + i)) || shows (m * 2 ^ ((k - b) % k)) (suc i)) ≡ shows m (suc (b + i))
+    go zero l r =
+        let whole : m * 2 ^ ((k - 0) % k) ≡ m = ap (λ (x : ℕ). m * 2 ^ x) (ap (λ (x : ℕ). x % k) (sub-zero k) ∙ mod-self k) ∙ mul-one m in
+        ap₂ (λ (n j : ℕ). shows m (suc (0 + i)) || shows n (suc j)) whole (sym (zero-add i)) ∙ or-self (shows m (suc (0 + i)))
+    go (suc c) l r =
+        let none : shows (m * 2 ^ ((k - suc c) % k)) (suc i) ≡ false =
+        ap (λ (x : ℕ). shows (m * 2 ^ x) (suc i)) (mod-eq-of-lt (omega arith)) ∙ shl-shows-none m (k - suc c) (suc i) (omega arith) in
+        ap (λ (x : Bool). shows m (suc (suc c + i)) || x) none ∙ or-false (shows m (suc (suc c + i)))
+
+-- ---- the answer
+
+-- a pointer before the first port turns no more than one at it
+module _ (m n pointer b : ℕ) (e : b ≡ pointer - 1) (t : Turned ports b m n) where
+  -- port q of the mask is place q - b of the turned one
+  place : (q : ℕ) (x : Bool) → b < q → q ≤ ports → shows n (suc (q - suc b)) ≡ x → shows m q ≡ x
+  place q x a u w = ap (shows m) (omega arith) ∙ sym (t (q - suc b) (omega arith)) ∙ w
+
+  none-before : (q : ℕ) → b < q → q ≤ ports → q < trailingZeros ports n + b + 1 → shows m q ≡ false
+  none-before q a u h = place q false a u (zeros-none ports n (q - suc b) (omega arith))
+
+  pub turned-back : trailingZeros ports n + b + 1 ≤ ports → lowestFrom (shows m) pointer ≡ Port (trailingZeros ports n + b + 1)
+  turned-back h =
+      let z = trailingZeros ports n in
+      let back : z + b + 1 - suc b ≡ z = omega arith in
+      right-lowest (shows m) pointer (Port (z + b + 1))
+      record {
+        after = omega arith;
+        positive = omega arith;
+        within = h;
+        member = place (z + b + 1) true (omega arith) h (ap (λ (i : ℕ). shows n (suc i)) back ∙ behind-zeros ports n (omega arith));
+        least = λ q l a u. none-before q (omega arith) (omega arith) u;
+      }
+
+  pub gone-round : ports < trailingZeros ports n + b + 1 → lowestFrom (shows m) pointer ≡ Nothing
+  gone-round h = right-lowest (shows m) pointer Nothing (λ q l a u. none-before q (omega arith) u (omega arith))
+
+pub past-the-last : (f : ℕ → Bool) (pointer : ℕ) → ports < pointer → lowestFrom f pointer ≡ Nothing
+past-the-last f pointer h = right-lowest f pointer Nothing (λ q l a u. absurd (omega arith))

@@ -63,13 +63,20 @@ pub fn at_or_after(mask: u32, pointer: u32) -> u32
     (mask >> below) << below
 }
 
-// The lowest-numbered port shown at or after `pointer`: the one behind the trailing zeros.
+// The lowest-numbered port shown at or after `pointer`. The ports are turned so that the pointer's port is lowest, and the answer is turned back.
 pub fn lowest(mask: u32, pointer: u32) -> Found
     ensures { λ r. ⌜ r ≡ lowestFrom (shows mask) pointer ⌝ }
 {
-    let zeros = u32::trailing_zeros(at_or_after(mask, pointer));
-    if zeros < 32 {
-        Found::Port(zeros + 1)
+    // one past the last port, or beyond, nothing is turned
+    if 33 <= pointer {
+        return Found::Nothing;
+    }
+    let turn = if pointer < 1 { 0 } else { pointer - 1 };
+    let turned = (mask >> turn) | (mask << ((32 - turn) % 32));
+    // a port below the pointer has gone round, behind the last
+    let port = u32::trailing_zeros(turned) + turn + 1;
+    if port <= 32 {
+        Found::Port(port)
     } else {
         Found::Nothing
     }
