@@ -1,7 +1,7 @@
 -- The search on a turned mask: the port behind its trailing zeros, turned back, is the lowest at or after the pointer, unless it has gone round.
 use mathlib.Core.Path.{_≡_, sym, ap, ap₂, _∙_}
 use mathlib.Core.Bool.{Bool, true, false, _||_, or-self, or-false}
-use Prim.Native.Nat.{ℕ, zero, suc, _+_, _-_, _*_, _/_, _%_, _^_, _≤_, _<_}
+use Prim.Native.Nat.{ℕ, zero, suc, _+_, _-_, _*_, _/_, _%_, _^_, _≤_, _<_, max}
 use native.Mathlib.Nat.{mod-lt, mod-self, mod-eq-of-lt, mul-one, sub-zero, zero-add, zero-lt-suc}
 use native.Mathlib.Omega.{arith}
 use lib.Bits.{bitOr}
@@ -63,32 +63,36 @@ turned k b m l i r =
         ap (λ (x : ℕ). shows (m * 2 ^ x) (suc i)) (mod-eq-of-lt (omega arith)) ∙ shl-shows-none m (k - suc c) (suc i) (omega arith) in
         ap (λ (x : Bool). shows m (suc (suc c + i)) || x) none ∙ or-false (shows m (suc (suc c + i)))
 
+-- a mask that is not turned
+pub unturned : (k m : ℕ) → Turned k 0 m m
+unturned k m i r = ap (λ (x : ℕ). shows m (suc x)) (sym (zero-add i))
+
 -- ---- the answer
 
--- a pointer before the first port turns no more than one at it
-module _ (m n pointer b : ℕ) (e : b ≡ pointer - 1) (t : Turned ports b m n) where
-  -- port q of the mask is place q - b of the turned one
-  place : (q : ℕ) (x : Bool) → b < q → q ≤ ports → shows n (suc (q - suc b)) ≡ x → shows m q ≡ x
-  place q x a u w = ap (shows m) (omega arith) ∙ sym (t (q - suc b) (omega arith)) ∙ w
+-- a pointer before the first port counts as one at it
+module _ (m n pointer first : ℕ) (e : first ≡ max pointer 1) (t : Turned ports (first - 1) m n) where
+  -- port q of the mask is place q - first + 1 of the turned one
+  place : (q : ℕ) (x : Bool) → first ≤ q → q ≤ ports → shows n (suc (q - first)) ≡ x → shows m q ≡ x
+  place q x a u w = ap (shows m) (omega arith) ∙ sym (t (q - first) (omega arith)) ∙ w
 
-  none-before : (q : ℕ) → b < q → q ≤ ports → q < trailingZeros ports n + b + 1 → shows m q ≡ false
-  none-before q a u h = place q false a u (zeros-none ports n (q - suc b) (omega arith))
+  none-before : (q : ℕ) → first ≤ q → q ≤ ports → q < trailingZeros ports n + first → shows m q ≡ false
+  none-before q a u h = place q false a u (zeros-none ports n (q - first) (omega arith))
 
-  pub turned-back : trailingZeros ports n + b + 1 ≤ ports → lowestFrom (shows m) pointer ≡ Port (trailingZeros ports n + b + 1)
+  pub turned-back : trailingZeros ports n + first ≤ ports → lowestFrom (shows m) pointer ≡ Port (trailingZeros ports n + first)
   turned-back h =
       let z = trailingZeros ports n in
-      let back : z + b + 1 - suc b ≡ z = omega arith in
-      right-lowest (shows m) pointer (Port (z + b + 1))
+      let at : z + first - first ≡ z = omega arith in
+      right-lowest (shows m) pointer (Port (z + first))
       record {
         after = omega arith;
         positive = omega arith;
         within = h;
-        member = place (z + b + 1) true (omega arith) h (ap (λ (i : ℕ). shows n (suc i)) back ∙ behind-zeros ports n (omega arith));
-        least = λ q l a u. none-before q (omega arith) (omega arith) u;
+        member = place (z + first) true (omega arith) h (ap (λ (i : ℕ). shows n (suc i)) at ∙ behind-zeros ports n (omega arith));
+        least = λ q g a u. none-before q (omega arith) (omega arith) u;
       }
 
-  pub gone-round : ports < trailingZeros ports n + b + 1 → lowestFrom (shows m) pointer ≡ Nothing
-  gone-round h = right-lowest (shows m) pointer Nothing (λ q l a u. none-before q (omega arith) u (omega arith))
+  pub gone-round : ports < trailingZeros ports n + first → lowestFrom (shows m) pointer ≡ Nothing
+  gone-round h = right-lowest (shows m) pointer Nothing (λ q g a u. none-before q (omega arith) u (omega arith))
 
 pub past-the-last : (f : ℕ → Bool) (pointer : ℕ) → ports < pointer → lowestFrom f pointer ≡ Nothing
 past-the-last f pointer h = right-lowest f pointer Nothing (λ q l a u. absurd (omega arith))

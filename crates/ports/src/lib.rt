@@ -71,12 +71,20 @@ pub fn lowest(mask: u32, pointer: u32) -> Found
     if 33 <= pointer {
         return Found::Nothing;
     }
-    let turn = if pointer < 1 { 0 } else { pointer - 1 };
-    let turned = (mask >> turn) | (mask << ((32 - turn) % 32));
-    // a port below the pointer has gone round, behind the last
-    let port = u32::trailing_zeros(turned) + turn + 1;
-    if port <= 32 {
-        Found::Port(port)
+    if 1 <= pointer {
+        let turn = pointer - 1;
+        let turned = (mask >> turn) | (mask << ((32 - turn) % 32));
+        let zeros = u32::trailing_zeros(turned);
+        // the ports below the pointer have gone round, behind the last one
+        if zeros <= 32 - pointer {
+            return Found::Port(zeros + pointer);
+        }
+        return Found::Nothing;
+    }
+    // before the first port nothing has to be turned
+    let zeros = u32::trailing_zeros(mask);
+    if zeros < 32 {
+        Found::Port(zeros + 1)
     } else {
         Found::Nothing
     }
