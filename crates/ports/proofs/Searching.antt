@@ -43,11 +43,11 @@ behind-zeros (suc k) m h = go (m % 2) (mod-lt m (zero-lt-suc 1)) (shows-first m)
 
 -- ---- turning, at any width k
 
--- n shows the ports of m above b, each b lower
+-- n shows the ports of m above b, each b lower; of those that have gone round it says nothing
 abbrev pub Turned : ℕ → ℕ → ℕ → ℕ → Type 0
 Turned k b m n = (i : ℕ) → b + i < k → shows n (suc i) ≡ shows m (suc (b + i))
 
--- the ports up to b come round behind the others; where b is 0 every port stays
+-- two shifts turn a mask; where b is 0 both are by 0
 pub turned : (k b m : ℕ) → b < k → Turned k b m (bitOr (m / 2 ^ b) (m * 2 ^ ((k - b) % k) % 2 ^ k))
 turned k b m l i r =
     shows-or (m / 2 ^ b) (m * 2 ^ ((k - b) % k) % 2 ^ k) (suc i)
