@@ -5,9 +5,9 @@
     python3 tools/log_texts.py --list       prints each text's name, its sizes, where its log is from and what it is for
 
 `stdin` holds the texts with a byte 0 between one and the next; `stdout` holds their logs, each followed by a line `--`.
-A log is from one of three places: a vector's own file; `worked`, by hand from document 01 and stated here; `reference.py`. The reference must
-give the logs of the first two as well, and of each text of plan_texts.py the first line that is stated there: where it doesn't, nothing is
-written and the script fails.
+The logs are those of `reference.py`. It must give each vector's own file, that of after-4 where slip 4 of document 02 changed it; each log that is `worked`,
+by hand from document 01 and that slip, and stated here; and of each text of plan_texts.py the first line that is stated there. Where it doesn't, nothing
+is written and the script fails.
 """
 import pathlib
 import random
@@ -66,7 +66,10 @@ for name, text, line in plan_texts.cases:
 
 # (a) the vectors, with their own logs
 
-for path in sorted((root.parent / 'shared' / 'vectors').glob('*.text')):
+vectors = root.parent / 'shared' / 'vectors'
+after_4 = vectors / 'after-4'
+for path in sorted([*vectors.glob('*.text'), *(p for p in after_4.glob('*.text') if not (vectors / p.name).exists())], key=lambda p: p.stem):
+    path = after_4 / path.name if (after_4 / path.name).exists() else path
     if b'\0' not in path.read_bytes():
         case('vector-' + path.stem, 'the vector ' + path.stem, path.read_bytes(), path.with_suffix('.log').read_bytes(), 'vector')
 
@@ -1297,7 +1300,7 @@ worked('not-replaced', 'a refused request does not replace the standing one', ex
 
 # (i) changes of class, resumed and afresh, at every depth
 
-worked('always-the-root', 'a change of class turns at the root, also where the next node hangs on a hub below it', plan(
+worked('nearest-hub', 'a change of class turns at the holder, to which the root\'s pointer leads; by the old rule 2 this grant took 3 moves', plan(
     100000, 1000, 13000, '(hub', '(hub', '(hub', '(node)', '(node)', ')', '(node)', ')', ')') + lines_of('''
 (reserve 0 3 1 512)
 (normal 100000 1 512)
@@ -1309,12 +1312,63 @@ worked('always-the-root', 'a change of class turns at the root, also where the n
 (nodes 3 hubs 3)
 (grant 100000 1 1 101512 2)
 (grant 101512 3 2 103024 3)
-(grant 103024 2 1 104536 3)
+(grant 103024 2 1 104536 1)
 (grant 104536 3 1 106048 1)
 (rest 106048 1)
 ''')
 
 PAIR = plan(100000, 1000, 13000, '(hub', '(hub', '(node)', '(node)', ')', '(hub', '(node)', '(node)', ')', ')')
+
+worked('unmarked-on-the-line', 'at the change back to normal the root\'s pointer is on the holder\'s line, but not marked: up to the root and afresh, so 2 before 3', example('''
+(reserve 0 2 1 512)
+(normal 100000 2 512)
+(normal 100001 1 512)
+(high 101513 2 512)
+(normal 103025 2 512)
+(normal 103025 3 512)
+(until 120000)
+'''), '''
+(nodes 4 hubs 2)
+(grant 100000 2 1 101512 1)
+(grant 101512 1 1 103024 1)
+(grant 103024 2 2 104536 1)
+(grant 104536 2 1 106048 2)
+(grant 106048 3 1 107560 0)
+(rest 107560 1)
+''')
+
+worked('marked-elsewhere', 'at the change back to normal the root\'s pointer is marked, but not on the holder\'s line: up to the root and afresh, so 3 before 4', PAIR + lines_of('''
+(reserve 0 3 1 512)
+(normal 100000 3 512)
+(normal 100001 1 512)
+(high 101513 3 512)
+(normal 103025 3 512)
+(normal 103025 4 512)
+(until 120000)
+'''), '''
+(nodes 4 hubs 3)
+(grant 100000 3 1 101512 1)
+(grant 101512 1 1 103024 2)
+(grant 103024 3 2 104536 2)
+(grant 104536 3 1 106048 2)
+(grant 106048 4 1 107560 0)
+(rest 107560 1)
+''')
+
+worked('turn-and-hand-up', 'control turns at the holder, in which nothing is left, and goes up from there: one move, as by the root', plan(
+    100000, 1000, 13000, '(hub', '(hub', '(node)', '(node)', ')', '(node)', ')') + lines_of('''
+(reserve 0 2 1 512)
+(normal 100000 1 512)
+(high 100001 2 512)
+(normal 101513 3 512)
+(until 120000)
+'''), '''
+(nodes 3 hubs 2)
+(grant 100000 1 1 101512 1)
+(grant 101512 2 2 103024 2)
+(grant 103024 3 1 104536 1)
+(rest 104536 0)
+''')
 
 worked('afresh-other-port', 'the pointer is marked, but another port is taken: its hub starts afresh, so 3 before 4', PAIR + lines_of('''
 (normal 0 3 512)
@@ -1424,6 +1478,16 @@ for moves, (up, marked, fresh) in enumerate(TRIPLES):
         '(until 120000)',
     ], arms_log(2, 1, up, marked, fresh))
 
+# A normal grant at the depth `turn` of the first arm, a high one at the greater depth `deep`, and a normal one there: the normal pointers lead down to the hub
+# at the depth `turn`, whose own is behind its node and not marked (at depth 0 none leads anywhere). So up to that hub, and down from it afresh; by the old rule 2
+# it took 2 × deep.
+for deep in range(1, 5):
+    for turn in range(deep):
+        worked(f'turn-at-{turn}-from-{deep}', f'a change to normal turns at depth {turn}, from depth {deep}', ARMS + [
+            f'(reserve 0 {deep + 1} 1 512)', f'(normal 100000 {turn + 1} 512)', f'(high 100001 {deep + 1} 512)', f'(normal 101600 {deep + 1} 512)', '(until 120000)',
+        ], ['(nodes 10 hubs 9)', f'(grant 100000 {turn + 1} 1 101512 {turn})', f'(grant 101512 {deep + 1} 2 103024 {turn + deep})',
+            f'(grant 103024 {deep + 1} 1 104536 {2 * (deep - turn)})', f'(rest 104536 {deep})'])
+
 every = []
 for up in range(5):
     for marked in range(5):
@@ -1450,6 +1514,13 @@ for d in range(1, 5):
 (until 110000)
 '''), [f'(nodes 4 hubs {d + 1})', f'(grant 100000 2 1 101512 {d})', f'(grant 101512 4 2 103024 {d})', f'(grant 103024 3 1 104536 {d})',
        f'(grant 104536 2 1 106048 {2 * d})', f'(rest 106048 {d})'])
+    worked(f'turn-at-holder-{d}', f'depth {d}: both classes have their marked line to the holder, so no move; by the old rule 2 it took {2 * d}', chain(d) + lines_of('''
+(reserve 0 3 1 512)
+(normal 100000 2 512)
+(high 100100 3 512)
+(normal 102000 3 512)
+(until 110000)
+'''), [f'(nodes 4 hubs {d + 1})', f'(grant 100000 2 1 101512 {d})', f'(grant 101512 3 2 103024 {2 * d})', '(grant 103024 3 1 104536 0)', f'(rest 104536 {d})'])
     worked(f'resume-after-rest-{d}', f'depth {d}: a rest loses no turn, so 3 before 2', chain(d) + lines_of('''
 (normal 0 2 512)
 (until 5000)
@@ -1643,7 +1714,7 @@ def main():
     if differing:
         sys.exit(f'log_texts: the reference differs from {len(differing)} logs; nothing written')
     stdin = b'\0'.join(c[2] for c in cases)
-    stdout = b''.join((c[3] if c[3] is not None else reference.log(c[2])) + b'--\n' for c in cases)
+    stdout = b''.join(reference.log(c[2]) + b'--\n' for c in cases)
     longer = [c[0] for c in cases if len(c[2]) > 65536]
     if stdin.count(0) != len(cases) - 1 or len({c[0] for c in cases}) != len(cases) or len(stdin) >= 1048576 or not cases[-1][2] or len(longer) > 4:
         sys.exit('log_texts: a byte 0 in a text, a name twice, too many bytes, or an empty text at the end')

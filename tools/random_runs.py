@@ -1,11 +1,11 @@
 #!/usr/bin/env python3
-"""Holds the definitions of crates/rules against a second model of document 01, on random lists of calls.
+"""Holds the definitions of crates/rules against a second model of document 01 and slip 4 of document 02, on random lists of calls.
 
     python3 tools/random_runs.py [SEED [RUNS [CALLS]]]        default 1 100 80
 
-The model below is written from document 01 alone, with hub-by-hub control. Each run is a random plan and a random list of calls, refused ones among them; its
-answers by the model are written as a theorem about the definitions (`answers p (control p) calls` is this list), which the checker computes. It works in a
-temporary folder; it is no part of the gate.
+The model below is written from their words alone, with hub-by-hub control. Each run is a random plan and a random list of calls, refused ones among them; its
+answers by the model are written as a theorem about the definitions (`answers p (control p) calls` is this list), which the checker computes; and so are those by
+the rule 2 that document 01 had before (`fromRoot`). It works in a temporary folder; it is no part of the gate.
 """
 import collections
 import pathlib
@@ -54,8 +54,8 @@ def random_plan(rng):
 
 
 class Hub:
-    def __init__(self, plan):
-        self.plan = plan
+    def __init__(self, plan, nearest=True):
+        self.plan, self.nearest = plan, nearest
         self.clock = 0
         self.busy = None  # until when the line is busy
         self.request = {}  # node: class and bits
@@ -156,11 +156,22 @@ class Hub:
         kind, number = port
         return number in wanted if kind == 'node' else kind == 'hub' and any(self.shows(x, wanted) for x in self.plan.ports[number])
 
+    def turning(self, c):
+        """From the root down the holder's line, as far as marked pointers lead along it."""
+        line = [self.holder]
+        while line[0] != 1:
+            line.insert(0, self.plan.parent[line[0]])
+        for above, below in zip(line, line[1:]):
+            if self.pointer[c][above] != (self.plan.place[below], True):
+                return above
+        return self.holder
+
     def turn(self, c, wanted):
         """Rules 2 to 4."""
         moves, pointer = 0, self.pointer[c]
         if self.last not in (None, c):
-            moves, self.holder = self.plan.level[self.holder] - 1, 1
+            to = self.turning(c) if self.nearest else 1
+            moves, self.holder = self.plan.level[self.holder] - self.plan.level[to], to
         while True:
             hub = self.holder
             at, marked = pointer[hub]
@@ -261,15 +272,17 @@ use Rattle.rules.specs.Plan.{Plan, Port, node, empty, hub}
 use Rattle.rules.specs.Call.{Class, normal, high, Call, ask, off, reserve, until, step, Answer, taken, refused, grant, rest, quiet}
 use Rattle.rules.specs.Choice.{any, sum, first}
 use Rattle.rules.specs.Core.{advance, countsIn, counts, held, due, sought}
-use Rattle.rules.specs.Control.{control, below, lowest, walk, chooseBy}
+use Rattle.rules.specs.Control.{control, fromRoot, below, lowest, walk, led, nearest, chooseBy, chooseFromRoot}
 use Rattle.rules.specs.Machine.{perform}
 use Rattle.rules.specs.Run.{made, answers}
 '''
 
 
-def theorem(i, plan, run):
+def theorem(i, plan, run, by_root):
     calls = as_list(as_call(call) for call, _ in run)
     expected = as_list(as_answer(answer) for _, answer in run)
+    root = as_list(as_answer(answer) for answer in by_root)
+    opened = f'unfolding calls{i} any sum first advance countsIn counts held due sought below lowest walk perform made'
     return f'''abbrev p{i} : Plan
 p{i} = {as_plan(plan)}
 
@@ -280,8 +293,15 @@ expected{i} : List Answer
 expected{i} = {expected}
 
 right{i} : answers p{i} (control p{i}) calls{i} ≡ expected{i}
-unfolding calls{i} expected{i} any sum first advance countsIn counts held due sought below lowest walk chooseBy perform made
+{opened} expected{i} led nearest chooseBy
 right{i} = refl
+
+byRoot{i} : List Answer
+byRoot{i} = {root}
+
+rootRight{i} : answers p{i} (fromRoot p{i}) calls{i} ≡ byRoot{i}
+{opened} byRoot{i} chooseFromRoot
+rootRight{i} = refl
 '''
 
 
@@ -289,7 +309,7 @@ def main():
     seed, runs, n = ([int(x) for x in sys.argv[1:]] + [1, 100, 80][len(sys.argv) - 1:])[:3]
     rng = random.Random(seed)
     kinds = collections.Counter()
-    most = 0
+    most = fewer = 0
     out = [HEAD]
     for i in range(runs):
         plan = random_plan(rng)
@@ -297,7 +317,10 @@ def main():
         for _, a in run:
             kinds[a[0] + (f' {a[1]}' if a[0] == 'refused' else f' {a[3]}' if a[0] == 'grant' else '')] += 1
             most = max(most, a[5] if a[0] == 'grant' else 0)
-        out.append(theorem(i, plan, run))
+        root_hub = Hub(plan, nearest=False)
+        by_root = [root_hub.call(call) for call, _ in run]
+        fewer += sum(a != b for (_, a), b in zip(run, by_root))
+        out.append(theorem(i, plan, run, by_root))
     root = pathlib.Path(__file__).resolve().parent.parent
     with tempfile.TemporaryDirectory() as d:
         d = pathlib.Path(d)
@@ -310,7 +333,7 @@ def main():
     if done.returncode:
         print(done.stdout[-3000:], done.stderr[-3000:])
         sys.exit(f'random_runs: the definitions and the model differ, or the check failed (seed {seed})')
-    print(f'{runs} runs of {n} calls agree; at most {most} moves;', dict(kinds.most_common()))
+    print(f'{runs} runs of {n} calls agree; at most {most} moves, {fewer} steps with other moves than by the root;', dict(kinds.most_common()))
 
 
 main()

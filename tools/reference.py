@@ -1,10 +1,11 @@
 #!/usr/bin/env python3
-"""The whole program of document 01, written from its words alone: a text in, its log out.
+"""The whole program of document 01, with slip 4 of document 02, written from their words alone: a text in, its log out.
 
     python3 tools/reference.py < TEXT                as a module: log(text: bytes) -> bytes
     python3 tools/reference.py --vectors FOLDER      holds it against each FOLDER/*.text and its *.log
+    python3 tools/reference.py --root ..             either, by rule 2 as document 01 had it: control goes up to the root
 
-Words in quotes are document 01's. Each grant's node is found twice, by the flat rule and by control hub by hub; where they differ it stops.
+Words in quotes are document 01's, or slip 4's. Each grant's node is found twice, by the flat rule and by control hub by hub; where they differ it stops.
 """
 import collections
 import pathlib
@@ -110,8 +111,8 @@ class Flat:
 class Control:
     """"Control, hub by hub"."""
 
-    def __init__(self, plan):
-        self.plan, self.holder, self.latest_class, self.moves = plan, 1, None, 0
+    def __init__(self, plan, nearest=True):
+        self.plan, self.nearest, self.holder, self.latest_class, self.moves = plan, nearest, 1, None, 0
         self.pointer = {(hub, c): (1, False) for hub in plan.ports for c in (NORMAL, HIGH)}  # its port, and whether it is marked
 
     def pass_to(self, hub):
@@ -119,21 +120,36 @@ class Control:
         self.holder = hub
         self.moves += 1
 
-    def up_to_root(self):
-        while self.holder != 1:
+    def up_to(self, hub):
+        while self.holder != hub:
             self.pass_to(self.plan.above[self.holder][0])
+
+    def led_to(self, hub, sought):
+        """Whether "every hub above it on the holder's line has its pointer of the sought class marked and on that line"."""
+        while hub != 1:
+            hub, port = self.plan.above[hub]
+            if self.pointer[hub, sought] != (port, True):
+                return False
+        return True
+
+    def nearest_hub(self, sought):
+        """"The lowest hub, the holder included", of which that is so."""
+        hub = self.holder
+        while not self.led_to(hub, sought):
+            hub, _ = self.plan.above[hub]
+        return hub
 
     def rest(self):
         """Rule 1; the moves."""
         self.moves = 0
-        self.up_to_root()
+        self.up_to(1)
         return self.moves
 
     def grant(self, sought, counting):
         """Rules 2 to 4; the node and the moves."""
         self.moves = 0
         if self.latest_class not in (None, sought):
-            self.up_to_root()  # rule 2
+            self.up_to(self.nearest_hub(sought) if self.nearest else 1)  # rule 2
         self.latest_class = sought
         node = None
         while node is None:
@@ -191,8 +207,8 @@ def read_event(line):
 
 
 class Hub:
-    def __init__(self, plan):
-        self.plan, self.flat, self.control = plan, Flat(plan), Control(plan)
+    def __init__(self, plan, nearest=True):
+        self.plan, self.flat, self.control = plan, Flat(plan), Control(plan, nearest)
         self.clock = 0
         self.line_end = None  # the end of the busy line, None while it rests
         self.requests = {}  # the standing ones: node -> (class, b)
@@ -284,7 +300,7 @@ class Hub:
 
 # The log
 
-def log_lines(text):
+def log_lines(text, nearest):
     lines = Lines(text)
     try:
         plan = Plan(lines)
@@ -292,7 +308,7 @@ def log_lines(text):
         yield f'(refused {lines.number} {no})'
         return
     yield f'(nodes {plan.nodes} hubs {plan.hubs})'
-    hub = Hub(plan)
+    hub = Hub(plan, nearest)
     while lines.left():
         try:
             word, numbers = read_event(lines.next())
@@ -304,18 +320,20 @@ def log_lines(text):
             yield f'(refused {lines.number} {no})'
 
 
-def log(text):
-    return ''.join(line + '\n' for line in log_lines(text)).encode()
+def log(text, nearest=True):
+    return ''.join(line + '\n' for line in log_lines(text, nearest)).encode()
 
 
-def hold_against(folder):
+def hold_against(folder, nearest):
     texts = sorted(pathlib.Path(folder).glob('*.text'))
-    differing = [path.name for path in texts if log(path.read_bytes()) != path.with_suffix('.log').read_bytes()]
+    differing = [path.name for path in texts if log(path.read_bytes(), nearest) != path.with_suffix('.log').read_bytes()]
     print(f'{len(texts)} texts, {len(differing)} differ', *differing)
     return bool(differing) or not texts
 
 
 if __name__ == '__main__':
-    if sys.argv[1:2] == ['--vectors']:
-        sys.exit(hold_against(sys.argv[2]))
-    sys.stdout.buffer.write(log(sys.stdin.buffer.read(65536)))
+    words = [word for word in sys.argv[1:] if word != '--root']
+    nearest = '--root' not in sys.argv
+    if words[:1] == ['--vectors']:
+        sys.exit(hold_against(words[1], nearest))
+    sys.stdout.buffer.write(log(sys.stdin.buffer.read(65536), nearest))

@@ -3,15 +3,16 @@
 //!
 //!     cargo run --release --example bench > ../docs/BENCHMARKS.md
 //!
-//! A number behind `--` is how many rounds are made (21 without it). What it does meanwhile goes to
-//! standard error.
+//! A number behind `--` is how many rounds are made (21 without it); with 0 it writes the table of moves
+//! alone. What it does meanwhile goes to standard error.
 
 #[path = "../tests/archive/mod.rs"]
 mod archive;
 
 use archive::five;
 use lembuya::ffi::{self, CASCADE_CELLS, PLAN_CELLS};
-use reference::control::Control;
+use reference::control::{Control, Turning};
+use reference::core::Class;
 use reference::fast::Fast;
 use reference::flat::Flat;
 use reference::hub::{Answer, Call, Calls, Hub};
@@ -180,6 +181,76 @@ fn full(plan: &Plan, calls: usize, reserved: bool) -> Load {
         }
     }
     maker.load(before)
+}
+
+/// The nodes without a reservation ask normal all the time; behind one grant in four one of the others, by
+/// chance, asks high, as a camera does when a sheet passes.
+fn cameras(plan: &Plan, calls: usize) -> Load {
+    let mut random = Random::new(4);
+    let mut maker = Maker::new(plan);
+    maker.reserve(plan);
+    let nodes = plan.nodes as u64;
+    for k in (2..=nodes).step_by(2) {
+        maker.ask(&mut random, plan.frame, k);
+    }
+    let before = maker.calls.len();
+    while maker.calls.len() < before + calls {
+        match maker.call(Call::Step { t: LAST_TIME }) {
+            Answer::Grant { time, node, class, .. } => {
+                if class == Class::Normal {
+                    maker.ask(&mut random, time, node);
+                }
+                if random.chance(25) {
+                    let k = 2 * random.within(1..=nodes / 2) - 1;
+                    maker.ask(&mut random, time, k);
+                }
+            }
+            other => panic!("{other:?}"),
+        }
+    }
+    maker.load(before)
+}
+
+/// The calls of the long walks.
+fn far_apart(plan: &Plan) -> Load {
+    let last = walks(plan).pop().expect("a probe");
+    Load { before: Vec::new(), timed: [last.before, vec![last.call]].concat() }
+}
+
+/// What a load's grants and rests take.
+#[derive(Default)]
+struct Moves {
+    steps: u64,
+    /// By the archive, and by a hub that goes up to the root where the class changes.
+    nearest: u64,
+    root: u64,
+    /// Steps in which the second rule takes more, from the same state; and how many steps change the class.
+    fewer: u64,
+    changes: u64,
+}
+
+fn count_moves(plan: &Plan, load: &Load) -> Moves {
+    let mut moves = Moves::default();
+    let mut tables = Tables::new(plan);
+    let mut nearest = Hub::new(plan, Control::new(plan));
+    let mut root = Hub::new(plan, Control::turning(plan, Turning::Root));
+    let mut latest = None;
+    for &call in load.before.iter().chain(&load.timed) {
+        let mut same_state = nearest.clone();
+        same_state.turns().turn(Turning::Root);
+        let (answer, by_root) = (tables.call(call), root.call(call));
+        assert_eq!(nearest.call(call), answer);
+        assert_eq!(by_root.without_moves(), answer.without_moves());
+        moves.steps += u64::from(matches!(answer, Answer::Grant { .. } | Answer::Rest { .. }));
+        moves.nearest += answer.moves();
+        moves.root += by_root.moves();
+        moves.fewer += u64::from(same_state.call(call).moves() > answer.moves());
+        if let Answer::Grant { class, .. } = answer {
+            moves.changes += u64::from(latest.is_some_and(|latest| latest != class));
+            latest = Some(class);
+        }
+    }
+    moves
 }
 
 /// A call behind others.
@@ -719,6 +790,12 @@ const GROWTH: [(usize, usize); 8] = [(1, 1), (2, 1), (8, 1), (16, 1), (64, 2), (
 
 fn main() {
     let rounds = std::env::args().nth(1).and_then(|rounds| rounds.parse().ok()).unwrap_or(21);
+    if rounds == 0 {
+        let mut page = String::new();
+        moves_table(&mut page);
+        print!("{page}");
+        return;
+    }
     let clock = Clock::new();
     let cases: Vec<Case> = SHAPES.iter().chain(&GROWTH).map(|&(nodes, levels)| case(nodes, levels)).collect();
     let rows = measure(&clock, &cases, rounds);
@@ -735,6 +812,7 @@ fn main() {
     log_table(&mut page, main);
     worst_table(&mut page, main, &deepest);
     growth_tables(&mut page, all.clone());
+    moves_table(&mut page);
     print!("{page}");
 }
 
@@ -901,6 +979,48 @@ fn worst_table(page: &mut String, rows: &[(&Case, &Row)], deepest: &Worst) {
         .unwrap();
     }
     writeln!(page).unwrap();
+}
+
+/// Plans of three levels and more.
+const DEEP: [(usize, usize); 5] = [(32, 3), (32, 4), (4, 5), (32, 5), (256, 5)];
+
+fn moves_table(page: &mut String) {
+    writeln!(
+        page,
+        "\n## Moves\n\nMoves of control in a step that grants or rests, before request 4 of document 02 (a change of class goes up to the root) and after it (up to the \
+         nearest hub). These are counts and not timings. Light and full load are those above, and so are the walks between nodes far apart; under the load of the \
+         cameras the nodes without a reservation ask normal all the time, and behind one grant in four another node, by chance, asks high. All nodes of the last \
+         plan stand at level 5. Where no class changes, as in full load all normal, nothing can be saved.\n\n\
+         | Nodes | Levels | Load | Steps | Class changes | Moves a step before | After | Saved | Steps that take fewer, from the same state |\n\
+         |---|---|---|---|---|---|---|---|---|"
+    )
+    .unwrap();
+    let trees = DEEP.iter().map(|&(nodes, levels)| tree(nodes, levels));
+    for plan in trees.chain([deepest()]) {
+        let loads = [
+            ("light", light(&plan, CALLS)),
+            ("full", full(&plan, CALLS, true)),
+            ("cameras", cameras(&plan, CALLS)),
+            ("far apart", far_apart(&plan)),
+        ];
+        for (name, load) in loads {
+            let Moves { steps, nearest, root, fewer, changes } = count_moves(&plan, &load);
+            let each = |moves: u64| moves as f64 / steps as f64;
+            writeln!(
+                page,
+                "| {} | {} | {name} | {} | {} | {:.3} | {:.3} | {:.1} % | {} |",
+                plan.nodes,
+                plan.levels(),
+                commas(steps as usize),
+                commas(changes as usize),
+                each(root),
+                each(nearest),
+                100.0 * (root - nearest) as f64 / root as f64,
+                commas(fewer as usize)
+            )
+            .unwrap();
+        }
+    }
 }
 
 fn growth_tables(page: &mut String, mut all: Vec<(&Case, &Row)>) {

@@ -11,6 +11,7 @@ use Rattle.rules.specs.Control.{Control, control}
 use Rattle.rules.specs.Run.{Entry, made}
 use Rattle.rules.specs.Agree.{plain, movesOf, Every}
 use Rattle.rules.specs.Demand.{Holds3}
+use Rattle.rules.specs.Saving.{SavesOn}
 use Rattle.rules.specs.Promises.{NoTimeLost, Admits}
 use Rattle.rules.proofs.Acceptance.{acceptable-taken, taken-acceptable}
 use Rattle.rules.proofs.AlwaysSound.{Good, good}
@@ -75,6 +76,7 @@ module _ (P : List ℕ) (R : Ready P) (past : List Entry) (m : Made P past (made
         hub = tied .hub;
         answers = λ call. agrees call .answer;
         leaves = leaves;
+        saves = λ call. subst (λ (h : Hub Control). SavesOn p h call) (sym (tied .hub)) (kept .saves call);
         no-time-lost = subst (NoTimeLost p (control p)) (sym (tied .hub)) (kept .no-time-lost);
         clock-grows = grows;
         refusal-changes-nothing = refusal-unchanged P s;

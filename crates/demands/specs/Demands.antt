@@ -21,6 +21,7 @@ use Rattle.rules.specs.Flat.{flat}
 use Rattle.rules.specs.Control.{control}
 use Rattle.rules.specs.Run.{Entry, made}
 use Rattle.rules.specs.Agree.{plain, movesOf, Every}
+use Rattle.rules.specs.Saving.{SavesOn}
 use Rattle.rules.specs.Demand.{Holds3}
 use Rattle.rules.specs.Promises.{NoTimeLost, Admits, Acceptable}
 use Rattle.state.specs.declared.Step.{Step}
@@ -63,6 +64,8 @@ module _ (P : List ℕ) (p : Plan) (past : List Entry) (s : List ℕ) where
     pub hub : hubOf p s ≡ made p (control p) (callsOf past) .hub
     pub answers : (call : Call) → answerTo call ≡ perform p (control p) call (hubOf p s) .answer
     pub leaves : (call : Call) → hubOf p (cellsAfter call) ≡ perform p (control p) call (hubOf p s) .hub
+    -- Request 4 of document 02: from the same cells the rule 2 that went up to the root answers the same, in no fewer moves
+    pub saves : (call : Call) → SavesOn p (hubOf p s) call
     -- No time is lost, and the clock never goes back
     pub no-time-lost : NoTimeLost p (control p) (hubOf p s)
     pub clock-grows : (call : Call) → timeAt s clock-cell ≤ timeAt (cellsAfter call) clock-cell

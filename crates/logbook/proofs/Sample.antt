@@ -12,7 +12,7 @@ use Rattle.plan.specs.Tables.{putEmpty, putNode, putHub, putPorts, putRoot, put
 use Rattle.plan.specs.Reading.{hubLines, rootLine, interruptLine, overheadLine, frameLine, reading}
 use Rattle.rules.specs.Choice.{any, sum, first}
 use Rattle.rules.specs.Core.{advance, countsIn, counts, held, due, sought}
-use Rattle.rules.specs.Control.{below, lowest, walk, chooseBy}
+use Rattle.rules.specs.Control.{below, lowest, walk, led, nearest, chooseBy}
 use Rattle.rules.specs.Machine.{perform}
 use Rattle.log.specs.Handed.{handed}
 use Rattle.log.specs.FirstLine.{nodesHead, nodesLine, refusedLine}
@@ -37,7 +37,7 @@ unfolding
     flatten bytes textOf handed
     before lines digitRun keepDigit wellFormed valueFrom readRun readNumber startsWith isWord andThen readSpaced readClose readNumbers readBehind readForm formOf
     kindOf reading frameLine overheadLine interruptLine rootLine hubLines putRoot putNode putEmpty putHub putPorts putFigures planOf
-    any sum first advance countsIn counts held due sought below lowest walk chooseBy perform
+    any sum first advance countsIn counts held due sought below lowest walk led nearest chooseBy perform
     eventOf steps stepsBefore eventLog eventsLog planLog logOf
     digitsBy digits drawNumbers drawForm drawLine nodesHead nodesLine refusedLine grantLine restLine answerLine
 example = refl

@@ -9,6 +9,7 @@ use Rattle.rules.specs.Flat.{flat}
 use Rattle.rules.specs.Control.{Control, control}
 use Rattle.rules.specs.Run.{Made, made}
 use Rattle.rules.specs.Agree.{plain, movesOf, Every}
+use Rattle.rules.specs.Saving.{SavesOn}
 use Rattle.rules.specs.Demand.{Holds3}
 use Rattle.rules.specs.Promises.{NoTimeLost, Admits, Acceptable}
 
@@ -29,6 +30,8 @@ module _ (p : Plan) (calls : List Call) where
     pub turns-agree : map plain (cascade .past) ≡ map plain (made p (flat p) calls .past)
     -- Moves: at most 4 × (L - 1) in each grant and rest
     pub few-moves : Every (λ a. movesOf a ≤ 4 * (levels p - 1)) (cascade .past)
+    -- Request 4 of document 02: in the same state the rule 2 that went up to the root answers the same, in no fewer moves
+    pub saves : (call : Call) → SavesOn p (cascade .hub) call
     -- Demand 3
     pub demand-3 : Holds3 p (cascade .past)
     -- No time is lost, and the clock never goes back

@@ -8,5 +8,8 @@ pub mod Landing
 pub mod Levels
 pub mod Fresh
 pub mod Walk
+pub mod Nearest
 pub mod Like
+pub mod Twins
+pub mod Fewer
 pub mod Runs

@@ -1,10 +1,11 @@
 -- The theorems: Agree and Control.Runs (turns agree, moves), AlwaysSound and AlwaysTold (what holds at every place of a run), Stable, Unchanged, Admission,
--- Acceptance, NoTimeLost, Demand3 and ControlDemand3, Slips. The other files serve them.
+-- Acceptance, NoTimeLost, Demand3 and ControlDemand3, Saving (the new rule 2 beside the old), Slips and TurningSlips. The other files serve them.
 pub mod Choices
 pub mod InTurn
 pub mod Follows
 pub mod Agree
 pub mod Control
+pub mod Saving
 pub mod Clash
 pub mod Frames
 pub mod Passed
@@ -44,3 +45,4 @@ pub mod Demand3
 pub mod ControlDemand3
 pub mod Applies
 pub mod Slips
+pub mod TurningSlips

@@ -11,14 +11,14 @@ use Rattle.rules.specs.Call.{Class, Call, ask, off, reserve, until, step
 use Rattle.rules.specs.Core.{advance, countsIn, counts, Due, never, at, held, due, sought}
 use Rattle.rules.specs.Rows.{Verdict, accept, refuse, firstRow, rows}
 use Rattle.rules.specs.Drawn.{Figures}
-use Rattle.rules.specs.Control.{Control, below, lowest, take, walk, chooseBy}
+use Rattle.rules.specs.Control.{Control, below, lowest, take, walk, led, nearest, chooseBy}
 use Rattle.rules.specs.Machine.{Machine, Turn, Hub, decided, stepAt, perform}
 use Rattle.rules.specs.Run.{Entry, made, freshHub, answers}
 use Rattle.rules.specs.Slips.{Each, slips, downBy, walkBy, answersBy, hasty, stepSeen, decidedSeen, seeing, highTime, narrow, overfilled}
 use Rattle.rules.proofs.Clash.{clash}
 
 pub slips-shown : Each slips
-unfolding any sum first advance countsIn counts held due sought below lowest walk chooseBy perform made walkBy answersBy hasty seeing
+unfolding any sum first advance countsIn counts held due sought below lowest walk led nearest chooseBy perform made walkBy answersBy hasty seeing
 slips-shown = (
   record { right = refl; wrong = refl; differ = λ e. clash (cc) },
   (

@@ -1,4 +1,4 @@
--- "Control, hub by hub": rules 1 to 4.
+-- "Control, hub by hub": rules 1 to 4, with rule 2 as request 4 of document 02 changed it.
 use Prim.Native.Nat.{ℕ, zero, suc, _+_, _-_, _*_}
 use mathlib.Core.Bool.{Bool, true, false, _&&_}
 use lib.Dec.{eqb}
@@ -110,9 +110,33 @@ module _ (p : Plan) (c : Class) (f : ℕ → Bool) where
 abbrev pub most-looks : ℕ
 most-looks = 3 * most-levels
 
--- rule 2: where the class sought differs from that of the latest grant, control goes up to the root first
+-- the hub above g has its pointer marked and on g's line: its port is the one where g stands
+abbrev pub leadsTo : Plan → (ℕ → Pointer) → ℕ → Bool
+leadsTo p P g = eqb (p .place g) (P (p .parent g) .port) && P (p .parent g) .marked
+
+-- every hub above g on its line has its pointer so; by levels left, since no line is longer
+unfoldable pub led : Plan → (ℕ → Pointer) → ℕ → ℕ → Bool
+led p P zero g = false
+led p P (suc l) g = if eqb g 1 then true else leadsTo p P g && led p P l (p .parent g)
+
+-- the lowest hub of g's line, g included, for which every hub above it on that line has its pointer so
+unfoldable pub nearest : Plan → (ℕ → Pointer) → ℕ → ℕ → ℕ
+nearest p P zero g = 1
+nearest p P (suc l) g = if led p P most-levels g then g else nearest p P l (p .parent g)
+
+-- where control turns to class c: the holder's line, and the pointers of class c
+abbrev pub turning : Plan → Class → Control → ℕ
+turning p c σ = nearest p (σ .pointer c) most-levels (σ .holder)
+
+-- rule 2, as request 4 of document 02 has it: where the class sought differs from that of the latest grant, control goes up to that hub first
 unfoldable pub chooseBy : Plan → Class → (ℕ → Bool) → Control → Turn Control
 chooseBy p c f σ =
+    if same c (σ .latest) then walk p c f most-looks σ 0
+    else walk p c f most-looks (handTo (turning p c σ) σ) (climb p (σ .holder) - climb p (turning p c σ))
+
+-- rule 2 as document 01 had it before that request: control goes up to the root first
+unfoldable pub chooseFromRoot : Plan → Class → (ℕ → Bool) → Control → Turn Control
+chooseFromRoot p c f σ =
     if same c (σ .latest) then walk p c f most-looks σ 0
     else walk p c f most-looks (handTo 1 σ) (climb p (σ .holder))
 
@@ -122,3 +146,7 @@ restedBy p σ = record { state = handTo 1 σ; moves = climb p (σ .holder) }
 
 abbrev pub control : Plan → Machine
 control p = record { State = Control; start = atFirst; choose = chooseBy p; rested = restedBy p }
+
+-- the same control by the old rule 2, to compare them
+abbrev pub fromRoot : Plan → Machine
+fromRoot p = record { State = Control; start = atFirst; choose = chooseFromRoot p; rested = restedBy p }

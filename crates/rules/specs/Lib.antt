@@ -10,8 +10,10 @@ pub mod Flat
 pub mod Control
 pub mod Run
 pub mod Agree
+pub mod Saving
 pub mod Words
 pub mod Demand
 pub mod Promises
 pub mod Sample
 pub mod Slips
+pub mod TurningSlips

@@ -10,7 +10,7 @@ use Rattle.rules.specs.Call.{Class, normal, high, same, Call, ask, off, 
 use Rattle.rules.specs.Core.{Core, none, frameOf, advance, isClass, held, Due, never, at, due, before, sought}
 use Rattle.rules.specs.Rows.{Verdict, accept, refuse, firstRow, rows}
 use Rattle.rules.specs.Machine.{Machine, Turn, Rest, Hub, Outcome, handled, accepted, perform}
-use Rattle.rules.specs.Control.{Control, atFirst, atPort, marking, lowest, point, handTo, climb, take, handUp, walk, most-looks, chooseBy, restedBy, control}
+use Rattle.rules.specs.Control.{Control, atFirst, atPort, marking, lowest, point, handTo, climb, take, handUp, walk, most-looks, turning, chooseBy, restedBy, control}
 use Rattle.rules.specs.Run.{freshHub, answers}
 use Rattle.rules.specs.Sample.{plan01}
 
@@ -61,7 +61,7 @@ entering resumes p =
       start = atFirst;
       choose = λ c f σ.
           (if same c (σ .latest) then walkBy resumes p c f most-looks σ 0
-          else walkBy resumes p c f most-looks (handTo 1 σ) (climb p (σ .holder)));
+          else walkBy resumes p c f most-looks (handTo (turning p c σ) σ) (climb p (σ .holder) - climb p (turning p c σ)));
       rested = restedBy p;
     }
 

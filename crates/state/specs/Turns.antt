@@ -5,7 +5,7 @@ use mathlib.Core.List.{List}
 use lib.Dec.{ltb, eqb}
 use lib.ListN.{getD, set}
 use Rattle.rules.specs.Choice.{if_then_else_}
-use Rattle.rules.specs.Plan.{Port, node, empty, hub}
+use Rattle.rules.specs.Plan.{Port, node, empty, hub, most-levels}
 use Rattle.rules.specs.Control.{most-looks}
 use Rattle.ports.specs.Mask.{shows, digit}
 use Rattle.ports.specs.Search.{lowestFrom}
@@ -80,11 +80,26 @@ module _ (P : List ℕ) (isHigh : Bool) where
 abbrev pub climbBy : List ℕ → ℕ → ℕ
 climbBy P g = ifHub g (getD P (plan.hubCell g 3) 0 - 1) 0
 
--- rule 2: where the class sought differs from that of the latest grant, control goes up to the root first
+-- rule 2, one hub g of the holder's line, which goes on at its port q: t stays the nearest hub if g's pointer x is marked and there; else it is g
+unfoldable pub nearerBy : ℕ → ℕ → ℕ → ℕ → ℕ
+nearerBy x g q t = if eqb x (markedCode q) then t else g
+
+-- from hub g up to the root, t being the nearest hub of those passed
+unfoldable pub nearestBy : List ℕ → Bool → ℕ → ℕ → ℕ → ℕ → List ℕ → ℕ
+nearestBy P isHigh zero g q t s = 1
+nearestBy P isHigh (suc levels) g q t s =
+    let u = nearerBy (getD s (pointerCell isHigh g) 0) g q t in
+    ifHub g (if eqb g 1 then u else nearestBy P isHigh levels (getD P (plan.hubCell g 1) 0) (getD P (plan.hubCell g 2) 0) u s) 1
+
+-- where control turns, from the holder up; what its own pointer is doesn't matter, since the nearest hub so far is the holder either way (0 is no port)
+abbrev pub turningBy : List ℕ → Bool → List ℕ → ℕ
+turningBy P isHigh s = nearestBy P isHigh most-levels (getD s holder-cell 0) 0 (getD s holder-cell 0) s
+
+-- rule 2: where the class sought differs from that of the latest grant, control goes up to the nearest hub first
 unfoldable pub walked : List ℕ → Bool → List ℕ → Turned
 walked P isHigh s =
     if eqb (getD s class-cell 0) (digit isHigh) then walkBy P isHigh most-looks (getD s holder-cell 0) 0 s
-    else walkBy P isHigh most-looks 1 (climbBy P (getD s holder-cell 0)) s
+    else walkBy P isHigh most-looks (turningBy P isHigh s) (climbBy P (getD s holder-cell 0) - climbBy P (turningBy P isHigh s)) s
 
 -- who has control after a turn, and of what class the latest grant was
 unfoldable pub settled : Bool → Turn → List ℕ → List ℕ

@@ -15,6 +15,7 @@ use Rattle.rules.specs.Drawn.{Drawn, Within}
 use Rattle.rules.specs.Control as control
 use Rattle.rules.proofs.Choices.{Which, which, yes′, no′}
 use Rattle.rules.proofs.Control.Cover.{hangs}
+use Rattle.rules.proofs.Control.Nearest.{level-low}
 use Rattle.ports.specs.Ports.{ports, putPort, anyPort}
 use Rattle.ports.specs.Mask.{shows, maskOf}
 use Rattle.ports.proofs.Coding.{mask-cong, shows-mask}
@@ -112,10 +113,6 @@ module _ (P : List ℕ) (R : Ready P) (isHigh : Bool) (k : ℕ) (was now : ℕ �
     at-root : g ≡ 1 → MasksRight p isHigh now stored
     at-root e h v = ⊎-elim (λ x. absurd (omega (arith, x .0))) (λ r. r) (stored-behind h v)
 
-  level-low : (g : ℕ) → Within (p .hubs) g → 1 ≤ p .level g
-  level-low g w =
-      ⊎-elim (λ e. omega (arith, D .root-level, ap (p .level) e)) (λ l. omega (arith, hangs p D g l (w .up) .hung .level)) (eq-or-lt-of-le (w .low))
-
   -- with so many levels left, from hub g with k at its port q, the masks come right
   Mends : ℕ → Type 0
   Mends levels =
@@ -152,7 +149,7 @@ module _ (P : List ℕ) (R : Ready P) (isHigh : Bool) (k : ℕ) (was now : ℕ �
 
   mends : (levels : ℕ) → Mends levels
   unfolding Mends mend planOf
-  mends zero g q b s w v a e l c = absurd (omega (arith, level-low g w))
+  mends zero g q b s w v a e l c = absurd (omega (arith, level-low p D g w))
   mends (suc levels) g q b s w v a e l c =
       rw (le-ltb g 1 (w .low), le-ltb 32 g (omega (arith, w .up, D .few-hubs)))
       (⊎-elim (λ i. root-mends levels g q b s w v a e c (sym i)) (λ i. lower-mends levels g q b s w v a e c i l (mends levels)) (eq-or-lt-of-le (w .low)))

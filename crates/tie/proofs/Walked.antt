@@ -6,4 +6,5 @@ pub mod Frame
 pub mod Walk
 pub mod Keeping
 pub mod Settled
+pub mod Nearest
 pub mod Chosen

@@ -1,8 +1,9 @@
 -- The trial cases marked M, in document 01's words. Except M1 and M2 they use its plan.
+use Prim.Native.Nat.{ℕ}
 use mathlib.Core.List.{List, [], _∷_}
 use Rattle.rules.specs.Call.{normal, high, ask, reserve, step, taken, refused, grant, rest, quiet}
 use Rattle.trials.specs.Row.{Row, _⟶_, refusing, taking}
-use Rattle.trials.specs.Plans.{plan01, nine, short-interrupt, six-levels}
+use Rattle.trials.specs.Plans.{plan01, nine, short-interrupt, six-levels, three-levels}
 
 -- M1: one hub of 9 nodes, pointer 3 (by a grant to node 2), normal from 2, 3, 5, 9: granted 3, 5, 9, 2
 abbrev pub m1 : Row
@@ -135,7 +136,50 @@ m10-interrupt = refusing short-interrupt 3 2
 abbrev pub m10-levels : Row
 m10-levels = refusing six-levels 9 3
 
+-- M11, for request 4 of document 02, worked out by hand: nodes 1 and 2 stand in hub 3, nodes 3 and 4 in hub 2 above it. a to e are the moves of the last
+-- five grants, which by the old rule 2 were others
+abbrev pub three-levels-by : ℕ → ℕ → ℕ → ℕ → ℕ → Row
+three-levels-by a b c d e =
+    taking three-levels 5 3
+    (reserve 0 2 1 1000 ⟶ taken
+    ∷ reserve 0 3 1 1000 ⟶ taken
+    ∷ reserve 0 4 1 1000 ⟶ taken
+    -- down to hub 3
+    ∷ ask normal 100000 1 1000 ⟶ taken
+    ∷ step 100001 ⟶ grant 100000 1 normal 102000 2
+    -- no high pointer is marked: up to the root, and down to hub 2
+    ∷ ask high 100001 3 1000 ⟶ taken
+    ∷ step 102001 ⟶ grant 102000 3 high 104000 3
+    -- the root's normal pointer leads to hub 2, the holder: from there down to hub 3
+    ∷ ask normal 102001 2 1000 ⟶ taken
+    ∷ step 104001 ⟶ grant 104000 2 normal 106000 a
+    -- the root's high pointer leads to hub 2, and hub 2's stands behind node 3: up to hub 2
+    ∷ ask high 104001 4 1000 ⟶ taken
+    ∷ step 106001 ⟶ grant 106000 4 high 108000 b
+    -- from hub 2 down to hub 3, which has passed node 1: up to the root, round, and down to hub 3
+    ∷ ask normal 106001 1 1000 ⟶ taken
+    ∷ step 108001 ⟶ grant 108000 1 normal 110000 c
+    -- up to hub 2, which has passed hub 3: up to the root, round, and down to hub 3
+    ∷ ask high 108001 2 1000 ⟶ taken
+    ∷ step 110001 ⟶ grant 110000 2 high 112000 d
+    -- both normal pointers above hub 3 lead to it
+    ∷ ask normal 110001 2 1000 ⟶ taken
+    ∷ step 112001 ⟶ grant 112000 2 normal 114000 e
+    ∷ step 200000 ⟶ rest 114000 2
+    ∷ [])
+
+abbrev pub m11 : Row
+m11 = three-levels-by 1 1 5 4 0
+
+-- what the climb to the root took
+abbrev pub m11-from-root : Row
+m11-from-root = three-levels-by 3 3 7 6 4
+
 abbrev pub cases : List Row
 cases =
     m1 ∷ m2 ∷ m3 ∷ m4 ∷ m5-granted ∷ m5-refused ∷ m6 ∷ m7-normal ∷ m7-reserve ∷ m7-high ∷ m8 ∷ m9 ∷ m10-interrupt
-    ∷ m10-levels ∷ []
+    ∷ m10-levels ∷ m11 ∷ []
+
+-- cases by the old rule 2: M4's counts are the same by both
+abbrev pub cases-from-root : List Row
+cases-from-root = m4 ∷ m11-from-root ∷ []

@@ -39,3 +39,7 @@ four-below = "(hub" ∷ "(hub" ∷ "(hub" ∷ "(hub" ∷ "(node)" ∷ "(node)" �
 
 abbrev pub two-deep : List ℕ
 two-deep = textOf (figures01 ++ "(hub" ∷ four-below ++ four-below ++ ")" ∷ [])
+
+-- three levels: hub 1 has hub 2 and node 5, hub 2 has hub 3 and nodes 3 and 4, hub 3 has nodes 1 and 2
+abbrev pub three-levels : List ℕ
+three-levels = textOf (figures01 ++ "(hub" ∷ "(hub" ∷ "(hub" ∷ "(node)" ∷ "(node)" ∷ ")" ∷ "(node)" ∷ "(node)" ∷ ")" ∷ "(node)" ∷ ")" ∷ [])

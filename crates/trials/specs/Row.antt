@@ -3,7 +3,8 @@ use Prim.Native.Nat.{ℕ}
 use mathlib.Core.Path.{_≡_}
 use mathlib.Core.List.{List, [], _∷_, map, flatten}
 use Rattle.rules.specs.Call.{Call, step, time, Answer, quiet}
-use Rattle.rules.specs.Control.{control}
+use Rattle.rules.specs.Plan.{Plan}
+use Rattle.rules.specs.Machine.{Machine}
 use Rattle.rules.specs.Run.{Entry, answers}
 use Rattle.plan.specs.declared.Answer as plan
 use Rattle.plan.specs.declared.Answer.the-variants.{Taken, Refused}
@@ -22,21 +23,21 @@ pub record Row : Type 0 where
   pub calls : List Call
   pub expected : Outcome
 
--- the calls are made on the fresh hub of a plan that was read
-abbrev pub behind : plan.Answer → List ℕ → List Call → Outcome
-behind (Refused line number) tables calls = refused-at line number
-behind (Taken nodes hubs at line) tables calls =
+-- the calls are made on the fresh hub of a plan that was read, which gives turns by a machine
+abbrev pub behind : (Plan → Machine) → plan.Answer → List ℕ → List Call → Outcome
+behind M (Refused line number) tables calls = refused-at line number
+behind M (Taken nodes hubs at line) tables calls =
     let p = planOf tables in
-    answered nodes hubs (answers p (control p) calls)
+    answered nodes hubs (answers p (M p) calls)
 
-unfoldable pub outcome : List ℕ → List Call → Outcome
-outcome text calls =
+unfoldable pub outcome : (Plan → Machine) → List ℕ → List Call → Outcome
+outcome M text calls =
     let r = reading text in
-    behind (r .answer) (r .tables) calls
+    behind M (r .answer) (r .tables) calls
 
--- what the rows give is what is expected of them, row by row
-abbrev pub AllRight : List Row → Type 0
-AllRight rows = map (λ (r : Row). outcome (r .plan) (r .calls)) rows ≡ map (λ (r : Row). r .expected) rows
+-- what the rows give by a machine is what is expected of them, row by row
+abbrev pub AllRight : (Plan → Machine) → List Row → Type 0
+AllRight M rows = map (λ (r : Row). outcome M (r .plan) (r .calls)) rows ≡ map (λ (r : Row). r .expected) rows
 
 -- How rows are written: a call with the answer expected of it
 infix 70 _⟶_

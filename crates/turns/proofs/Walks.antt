@@ -1,5 +1,5 @@
 -- The walk from hub to hub, rule 2 and what a turn leaves: a law for each case of the definitions of `state`.
-use Prim.Native.Nat.{ℕ, suc, _+_, _-_, _<_, _≤_}
+use Prim.Native.Nat.{ℕ, suc, _+_, _-_, _*_, _/_, _%_, _<_, _≤_}
 use mathlib.Core.Path.{_≡_, sym, ap, _∙_}
 use mathlib.Core.Bool.{Bool}
 use mathlib.Core.List.{List}
@@ -10,7 +10,8 @@ use Rattle.ports.specs.Mask.{digit}
 use Rattle.state.specs.declared.Look.the-variants.{Node, Pass, Round, Stop}
 use Rattle.state.specs.declared.Turn.{Turn}
 use Rattle.plan.specs.Tables.{hubCell}
-use Rattle.state.specs.Turns.{Turned, lookBy, afterLook, walkBy, climbBy, walked, settled, chooseBy}
+use Rattle.state.specs.Layout.{pointerCell}
+use Rattle.state.specs.Turns.{Turned, lookBy, afterLook, walkBy, climbBy, nearerBy, nearestBy, turningBy, walked, settled, chooseBy}
 
 -- a walk that is known, taken apart as the contracts say it
 pub turned : {x : Turn} {t : List ℕ} {w : Turned} → w ≡ record { turn = x; cells = t } → (x ≡ w .turn) × (t ≡ w .cells)
@@ -68,9 +69,10 @@ module _ (P : List ℕ) (high : Bool) (s : List ℕ) where
   unfolding walked
   class-kept e = simp (eq-eqb _ _ e)
 
-  pub class-changed : (getD s 6 0 ≡ digit high → ⊥) → walked P high s ≡ walkBy P high 15 1 (climbBy P (getD s 5 0)) s
+  pub class-changed : (getD s 6 0 ≡ digit high → ⊥)
+      → (hub moves : ℕ) → hub ≡ turningBy P high s → moves ≡ climbBy P (getD s 5 0) - climbBy P hub → walked P high s ≡ walkBy P high 15 hub moves s
   unfolding walked
-  class-changed e = simp (ne-eqb _ _ e)
+  class-changed e hub moves h m = rw (m, h) (simp (ne-eqb _ _ e))
 
 module _ (high : Bool) (t : Turn) (s : List ℕ) where
   pub nobody-granted : t .node ≡ 0 → settled high t s ≡ set s 5 (t .hub)
@@ -97,3 +99,49 @@ pub chosen : (P : List ℕ) (high : Bool) (s : List ℕ) {x : Turn} {t u : List 
     → (x ≡ chooseBy P high s .turn) × (u ≡ chooseBy P high s .cells)
 unfolding chooseBy
 chosen P high s {x} {t} {u} e f h = (e, h ∙ rw (e, f))
+
+-- what a hub's pointer says of the nearest hub
+module _ (x g q t : ℕ) where
+  pub nearer-unmarked : x % 2 ≡ 0 → g ≡ nearerBy x g q t
+  unfolding nearerBy
+  nearer-unmarked e = simp (ne-eqb x (q * 2 + 1) (λ i. omega arith))
+
+  pub nearer-there : (x % 2 ≡ 0 → ⊥) → x / 2 ≡ q → t ≡ nearerBy x g q t
+  unfolding nearerBy
+  nearer-there m e = simp (eq-eqb x (q * 2 + 1) (omega arith))
+
+  pub nearer-elsewhere : (x / 2 ≡ q → ⊥) → g ≡ nearerBy x g q t
+  unfolding nearerBy
+  nearer-elsewhere e = simp (ne-eqb x (q * 2 + 1) (λ i. e (omega arith)))
+
+-- the way up the holder's line, by hub g
+module _ (P : List ℕ) (high : Bool) (levels g q t : ℕ) (s : List ℕ) where
+  pub line-over : levels ≡ 0 → 1 ≡ nearestBy P high levels g q t s
+  unfolding nearestBy
+  line-over e = rw e
+
+  module _ (some : levels ≡ 0 → ⊥) where
+    one-level : levels ≡ suc (levels - 1)
+    one-level = omega arith
+
+    pub line-no-hub : g < 1 → 1 ≡ nearestBy P high levels g q t s
+    unfolding nearestBy
+    line-no-hub h = rw one-level (simp (lt-ltb _ _ h))
+
+    pub line-beyond : 1 ≤ g → 32 < g → 1 ≡ nearestBy P high levels g q t s
+    unfolding nearestBy
+    line-beyond l h = rw one-level (simp (le-ltb _ _ l, lt-ltb _ _ h))
+
+    module _ (l : 1 ≤ g) (h : g ≤ 32) (u at : ℕ) (e : at ≡ pointerCell high g) (near : u ≡ nearerBy (getD s at 0) g q t) where
+      pub line-ends : g ≡ 1 → u ≡ nearestBy P high levels g q t s
+      unfolding nearestBy
+      line-ends r = rw (near, e, one-level) (simp (le-ltb _ _ l, le-ltb _ _ h, eq-eqb _ _ r))
+
+      pub line-goes-on : (g ≡ 1 → ⊥)
+          → nearestBy P high (levels - 1) (getD P (hubCell g 1) 0) (getD P (hubCell g 2) 0) u s ≡ nearestBy P high levels g q t s
+      unfolding nearestBy
+      line-goes-on r = rw (near, e) (sym (ap (λ (n : ℕ). nearestBy P high n g q t s) one-level ∙ unrolled))
+        where
+          unrolled : nearestBy P high (suc (levels - 1)) g q t s
+              ≡ nearestBy P high (levels - 1) (getD P (hubCell g 1) 0) (getD P (hubCell g 2) 0) (nearerBy (getD s (pointerCell high g) 0) g q t) s
+          unrolled = simp (le-ltb _ _ l, le-ltb _ _ h, ne-eqb _ _ r)

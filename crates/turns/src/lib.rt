@@ -10,7 +10,7 @@ ghost use Prim.Native.Nat.{_+_, _-_, _≤_, _<_};
 ghost use lib.ListN.{getD, set};
 ghost use Rattle.plan.specs.Tables.{portOf, portCell};
 ghost use Rattle.state.specs.Layout.{maskCell, pointerCell};
-ghost use Rattle.state.specs.Turns.{downBy, takeBy, upBy, handUpBy, lookBy, walkBy, climbBy, walked, settled, chooseBy};
+ghost use Rattle.state.specs.Turns.{downBy, takeBy, upBy, handUpBy, lookBy, walkBy, climbBy, nearerBy, nearestBy, walked, settled, chooseBy};
 
 // Where hub g's mask of a class stands.
 fn mask_cell(high: bool, g: u32) -> usize
@@ -193,7 +193,56 @@ pub fn climb(p: &Plan, g: u32) -> u64
     moves_up(p[8 + (g as usize - 1) * 36 + 3])
 }
 
-// Rule 2: where the class sought differs from that of the latest grant, control goes up to the root first.
+// Moves from hub g up to hub t of its line.
+fn climb_to(p: &Plan, g: u32, t: u32) -> u64
+    ensures { λ r. ⌜ r ≡ climbBy (now (p .entry)) g - climbBy (now (p .entry)) t ⌝ }
+    ensures { λ r. ⌜ r < 4294967296 ⌝ }
+{
+    let whole = climb(p, g);
+    let rest = climb(p, t);
+    if whole < rest {
+        return 0;
+    }
+    whole - rest
+}
+
+// Rule 2, one hub g of the holder's line, which goes on at port q: t stays the nearest hub if g's pointer is marked and there.
+fn nearer(pointer: u32, g: u32, q: u32, t: u32) -> u32
+    ensures { λ r. ⌜ r ≡ nearerBy pointer g q t ⌝ }
+{
+    let mark = pointer % 2;
+    let port = pointer / 2;
+    if mark == 0 {
+        return g;
+    }
+    if port == q {
+        return t;
+    }
+    g
+}
+
+// From hub g up to the root, t being the nearest hub of those passed.
+fn nearest(p: &Plan, s: &Cascade, high: bool, g: u32, q: u32, t: u32, levels: u32) -> u32
+    ensures { λ r. ⌜ r ≡ nearestBy (now (p .entry)) high levels g q t (now (s .entry)) ⌝ }
+{
+    if levels == 0 {
+        return 1;
+    }
+    if g < 1 {
+        return 1;
+    }
+    if 32 < g {
+        return 1;
+    }
+    let u = nearer(s[pointer_cell(high, g)], g, q, t);
+    if g == 1 {
+        return u;
+    }
+    let own = 8 + (g as usize - 1) * 36;
+    nearest(p, s, high, p[own + 1], p[own + 2], u, levels - 1)
+}
+
+// Rule 2: where the class sought differs from that of the latest grant, control goes up to the nearest hub first.
 fn walk_from(p: &Plan, s: &mut Cascade, high: bool) -> Turn
     ensures { λ r. ⌜ r ≡ walked (now (p .entry)) high (now (s .entry)) .turn ⌝ }
     ensures { λ r. ⌜ now (s .exit) ≡ walked (now (p .entry)) high (now (s .entry)) .cells ⌝ }
@@ -202,8 +251,9 @@ fn walk_from(p: &Plan, s: &mut Cascade, high: bool) -> Turn
     if s[6] == high as u32 {
         return walk(p, s, high, holder, 0, 15);
     }
-    let moves = climb(p, holder);
-    walk(p, s, high, 1, moves, 15)
+    let hub = nearest(p, s, high, holder, 0, holder, 5);
+    let moves = climb_to(p, holder, hub);
+    walk(p, s, high, hub, moves, 15)
 }
 
 // Who has control after a turn, and of what class the latest grant was.

@@ -1,4 +1,5 @@
-//! Control, hub by hub: rules 1 to 4, with the moves counted.
+//! Control, hub by hub: rules 1 to 4, with the moves counted. Rule 2 is slip 4's
+//! of document 02; document 01's own is there as an option.
 
 use crate::core::{Class, Turns};
 use crate::plan::{Plan, Port, ROOT};
@@ -16,10 +17,22 @@ fn unmarked(port: usize) -> Pointer {
     Pointer { port, marked: false }
 }
 
+/// How far control goes up where the class changes.
+#[derive(Clone, Copy, Debug, PartialEq, Eq)]
+pub enum Turning {
+    /// Slip 4: "the lowest hub, the holder included, for which every hub above
+    /// it on the holder's line has its pointer of the sought class marked and
+    /// on that line".
+    Nearest,
+    /// Document 01, before that slip: to the root.
+    Root,
+}
+
 /// "One hub has control, at first the root."
 #[derive(Clone, Debug)]
 pub struct Control {
     plan: Plan,
+    turning: Turning,
     holder: usize,
     /// The class of the latest grant.
     latest: Option<Class>,
@@ -30,8 +43,19 @@ pub struct Control {
 impl Control {
     /// A plan's control before any grant.
     pub fn new(plan: &Plan) -> Control {
+        Control::turning(plan, Turning::Nearest)
+    }
+
+    /// The same, where a change of class goes up as far as is said.
+    pub fn turning(plan: &Plan, turning: Turning) -> Control {
         let pointers = vec![unmarked(1); plan.hubs.len()];
-        Control { plan: plan.clone(), holder: ROOT, latest: None, pointers: [pointers.clone(), pointers] }
+        let pointers = [pointers.clone(), pointers];
+        Control { plan: plan.clone(), turning, holder: ROOT, latest: None, pointers }
+    }
+
+    /// From now on a change of class goes up as far as is said.
+    pub fn turn(&mut self, turning: Turning) {
+        self.turning = turning;
     }
 
     /// "A hub sees of each port only which classes count there or below it":
@@ -45,11 +69,33 @@ impl Control {
         hubs
     }
 
-    /// "Control goes up to the root. Pointers stay."
-    fn up_to_root(&mut self) -> u64 {
-        let moves = self.plan.hub(self.holder).level - 1;
-        self.holder = ROOT;
+    /// Control goes up to a hub of the holder's line. "Pointers stay."
+    fn up_to(&mut self, hub: usize) -> u64 {
+        let moves = self.plan.hub(self.holder).level - self.plan.hub(hub).level;
+        self.holder = hub;
         moves as u64
+    }
+
+    /// The hubs from the holder up to the root; with each but the first, the
+    /// port at which the line goes on down.
+    fn line(&self) -> Vec<(usize, usize)> {
+        let mut line = vec![(self.holder, 0)];
+        let mut below = self.holder;
+        while let Some((above, port)) = self.plan.hub(below).parent {
+            line.push((above, port));
+            below = above;
+        }
+        line
+    }
+
+    /// Where control turns to a class.
+    fn nearest(&self, class: Class) -> usize {
+        let line = self.line();
+        let on_line = |&(hub, port): &(usize, usize)| {
+            self.pointers[class as usize][hub - 1] == Pointer { port, marked: true }
+        };
+        let lowest = (0..line.len()).find(|&i| line[i + 1..].iter().all(on_line));
+        line[lowest.expect("no hub stands above the root")].0
     }
 }
 
@@ -66,10 +112,13 @@ impl Turns for Control {
     fn choose(&mut self, class: Class, counts: &dyn Fn(usize) -> bool) -> (usize, u64) {
         let counts_in = self.counts_in(counts);
         let mut moves = 0;
-        // 2. "The class sought differs from that of the latest grant: control
-        // goes up to the root first."
+        // 2. "The class sought differs from that of the latest grant."
         if self.latest != Some(class) {
-            moves += self.up_to_root();
+            let hub = match self.turning {
+                Turning::Nearest => self.nearest(class),
+                Turning::Root => ROOT,
+            };
+            moves += self.up_to(hub);
         }
         self.latest = Some(class);
         let pointers = &mut self.pointers[class as usize];
@@ -119,6 +168,6 @@ impl Turns for Control {
 
     /// 1. "Nothing counts: control goes up to the root. Pointers stay."
     fn rest(&mut self) -> u64 {
-        self.up_to_root()
+        self.up_to(ROOT)
     }
 }

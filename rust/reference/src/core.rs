@@ -128,6 +128,11 @@ impl<M: Turns> Core<M> {
         }
     }
 
+    /// Its way of choosing turns.
+    pub fn turns(&mut self) -> &mut M {
+        &mut self.turns
+    }
+
     /// "Frame f runs from f × T up to, not including, (f + 1) × T."
     fn frame_at(&self, t: u64) -> u64 {
         t / self.frame

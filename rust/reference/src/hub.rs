@@ -90,6 +90,11 @@ impl<M: Turns> Hub<M> {
         Hub { core: Core::new(plan, machine) }
     }
 
+    /// Its way of choosing turns.
+    pub fn turns(&mut self) -> &mut M {
+        self.core.turns()
+    }
+
     /// Takes a call and answers it.
     pub fn call(&mut self, call: Call) -> Answer {
         let event = match call {

@@ -1,10 +1,13 @@
-//! Flat, control and fast answer alike on random lists of calls.
+//! Flat, control and fast answer alike on random lists of calls; and in every
+//! state that one of them reaches, control by slip 4 takes no more moves than by
+//! document 01's own rule 2, and gives the same turn.
 
 mod common;
 
 use common::{control, flat};
+use reference::control::{Control, Turning};
 use reference::fast::Fast;
-use reference::hub::{Answer, Call};
+use reference::hub::{Answer, Call, Hub};
 use reference::random::calls::{Caller, Style};
 use reference::random::{plans, Random};
 
@@ -18,6 +21,9 @@ struct Met {
     quiet: u64,
     most_moves: u64,
     most_levels: u64,
+    /// Steps that take fewer moves than by the root, and how many fewer.
+    savings: u64,
+    saved: u64,
 }
 
 impl Met {
@@ -33,18 +39,34 @@ impl Met {
     }
 }
 
+/// The same call in the same state, by a way of turning.
+fn by(hub: &Hub<Control>, turning: Turning, call: Call) -> Answer {
+    let mut hub = hub.clone();
+    hub.turns().turn(turning);
+    hub.call(call)
+}
+
 fn agree(seed: u64, calls: u64, met: &mut Met) {
     let mut random = Random::new(seed);
     let plan = plans::plan(&mut random);
     let style = if random.chance(60) { Style::Mixed } else { Style::Loaded };
     let mut caller = Caller::new(&plan, random.number(), style);
     let (mut flat, mut control, mut fast) = (flat(&plan), control(&plan), Fast::new(&plan));
+    let mut root = Hub::new(&plan, Control::turning(&plan, Turning::Root));
     let levels = plan.levels() as u64;
     met.most_levels = met.most_levels.max(levels);
     for place in 0..calls {
         let call: Call = caller.next_call();
-        let answer = control.call(call);
         let at = || format!("seed {seed}, call {place}: {call:?}");
+        for hub in [&control, &root] {
+            let (near, far) = (by(hub, Turning::Nearest, call), by(hub, Turning::Root, call));
+            assert_eq!(near.without_moves(), far.without_moves(), "{}", at());
+            assert!(near.moves() <= far.moves(), "{near:?}, by the root {far:?}, {}", at());
+            met.savings += u64::from(near.moves() < far.moves());
+            met.saved += far.moves() - near.moves();
+        }
+        let answer = control.call(call);
+        assert_eq!(root.call(call).without_moves(), answer.without_moves(), "by the root, {}", at());
         assert_eq!(flat.call(call), answer.without_moves(), "flat, {}", at());
         assert_eq!(fast.call(call), answer.without_moves(), "fast, {}", at());
         assert!(answer.moves() <= 4 * (levels - 1), "moves {}, {}", answer.moves(), at());
@@ -71,6 +93,7 @@ fn the_three_hubs_agree() {
     assert!(met.grants.iter().all(|&grants| grants > 5_000), "{met:?}");
     assert!(met.rests > 5_000 && met.quiet > 5_000 && met.taken > 50_000, "{met:?}");
     assert!(met.most_levels == 5 && met.most_moves >= 12, "{met:?}");
+    assert!(met.savings > 1_000, "{met:?}");
 }
 
 /// `cargo test --release -- --ignored`, with LISTS to say how many.

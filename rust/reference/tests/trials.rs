@@ -1,11 +1,13 @@
-//! Document 01's trial cases M1 to M10, by control with its moves and by the
+//! Document 01's trial cases M1 to M10 and slip 4's, by control with its moves and by the
 //! flat hubs without.
 
 mod common;
 
 use common::{grant, hubs, plan, PLAN};
+use reference::control::{Control, Turning};
 use reference::hub::Answer::{self, Quiet, Refused, Rest, Taken};
 use reference::hub::Call::{self, High, Normal, Off, Reserve, Step, Until};
+use reference::hub::Hub;
 use reference::plan::{read, Plan};
 
 /// These calls get these answers.
@@ -139,6 +141,35 @@ fn m9_a_bound_at_the_due_instant() {
             (Step { t: 2008 }, Rest { time: 2007, moves: 0 }),
         ],
     );
+}
+
+/// Three levels: nodes 1 and 2 in hub 3, 3 and 4 in hub 2, 5 in the root. The
+/// moves by slip 4 and by document 01's own rule 2, worked out by hand.
+#[test]
+fn m11_a_change_of_class_turns_at_the_nearest_hub() {
+    let figures = &PLAN[..PLAN.find("(hub").unwrap()];
+    let nodes = "(node)\n(node)\n";
+    let plan = plan(&format!("{figures}(hub\n(hub\n(hub\n{nodes})\n{nodes})\n(node)\n)\n"));
+    let turns = [
+        (Turning::Nearest, [2, 3, 1, 1, 5, 4, 0]),
+        (Turning::Root, [2, 3, 3, 3, 7, 6, 4]),
+    ];
+    for (turning, moves) in turns {
+        let mut hub = Hub::new(&plan, Control::turning(&plan, turning));
+        for k in [2, 3, 4] {
+            assert_eq!(hub.call(Reserve { t: 0, k, n: 1, b: 1000 }), Taken);
+        }
+        let grants = [(1, 1), (3, 2), (2, 1), (4, 2), (1, 1), (2, 2), (2, 1)];
+        for (i, (k, class)) in (0..).zip(grants) {
+            let start = 100_000 + 2000 * i;
+            let t = if i == 0 { start } else { start - 1999 };
+            let ask = if class == 1 { Normal { t, k, b: 1000 } } else { High { t, k, b: 1000 } };
+            assert_eq!(hub.call(ask), Taken);
+            let expected = grant(start, k, class, start + 2000, moves[i as usize]);
+            assert_eq!(hub.call(Step { t: start + 1 }), expected, "{turning:?}");
+        }
+        assert_eq!(hub.call(ALL), Rest { time: 114_000, moves: 2 });
+    }
 }
 
 #[test]

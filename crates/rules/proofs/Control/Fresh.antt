@@ -12,7 +12,7 @@ use Rattle.rules.proofs.Choices.{put-same}
 use Rattle.rules.proofs.InTurn.{ahead}
 use Rattle.rules.proofs.Control.Intervals.{Counts, Clear, counts-clear}
 use Rattle.rules.proofs.Control.Cover.{Holds, holds, Look, nothing, something, look}
-use Rattle.rules.proofs.Control.Pointers.{Chain, root-within, chain-down, Good, stands, chain-within, chain-put, good-to-root, good-up}
+use Rattle.rules.proofs.Control.Pointers.{Chain, root-within, Good, stands, chain-within, chain-put, chain-marked, good-to-root, good-up}
 use Rattle.rules.proofs.Control.Steps.{same-self, others-none, point-others, others-trans, entered, own, own-unmarked, walk-node, walk-afresh}
 use Rattle.rules.proofs.Control.Landing.{Landed, landed-on}
 use Rattle.rules.proofs.Control.Choosing.{chosen-skip}
@@ -64,15 +64,10 @@ module _ (p : Plan) (D : Drawn p) (c : Class) (f : ℕ → Bool) where
       (others-trans (point-others c (σ .holder) (marking q) σ) (point-others c h (atPort 1) (point c (σ .holder) (marking q) σ)))
       (omega (arith, k .hung .level, level-up p D h (k .hung .number)))
       (fresh (entered c q h σ) (m + 1) 1
-      (rw (same-self c) (chain-put p D h (atPort 1) (omega arith) chain))
+      (rw (same-self c) (chain-put p D h (atPort 1) (omega arith) (chain-marked p D q h k ch)))
       (rw (same-self c) (put-same (put (σ .pointer c) (σ .holder) (marking q)) h (atPort 1))) (omega arith) (omega arith)
       (rw (k .first, ← (k .last)) s)
       (omega (arith, k .hung .level)))
-    where
-      chain : Chain p (put (σ .pointer c) (σ .holder) (marking q)) h
-      chain =
-          chain-down p D q h k (put-same (σ .pointer c) (σ .holder) (marking q))
-          (chain-put p D (σ .holder) (marking q) (omega arith) ch)
 
   -- what the holder finds at port q, unless it resumes a hub there
   pub found-lands : (n : ℕ) → FreshAt n → (σ : Control) (m x q : ℕ) → Chain p (σ .pointer c) (σ .holder)

@@ -7,7 +7,7 @@ use Rattle.rules.specs.Choice.{put}
 use Rattle.rules.specs.Plan.{Plan, hub}
 use Rattle.rules.specs.Drawn.{Drawn, Within}
 use Rattle.rules.specs.Control.{Pointer, atPort, marking}
-use Rattle.rules.proofs.Choices.{true-false, put-other}
+use Rattle.rules.proofs.Choices.{true-false, put-same, put-other}
 use Rattle.rules.proofs.Control.Cover.{rises, Holds, holds, hangs}
 
 -- every hub above g has its pointer marked and on g's line
@@ -100,3 +100,8 @@ module _ (p : Plan) (D : Drawn p) {P : ℕ → Pointer} where
   chain-put {g} h v m (under l u e c) =
       let n = hangs p D g l u .hung .below in
       under l u (put-other P h v (p .parent g) (λ i. omega arith) ∙ e) (chain-put h v (omega arith) c)
+
+module _ (p : Plan) (D : Drawn p) {P : ℕ → Pointer} where
+  -- a hub marks the port where h stands, and the chain goes on to h
+  pub chain-marked : {g : ℕ} (q h : ℕ) → Holds p D g q h → Chain p P g → Chain p (put P g (marking q)) h
+  chain-marked {g} q h k c = chain-down p D q h k (put-same P g (marking q)) (chain-put p D g (marking q) (omega arith) c)

@@ -13,7 +13,7 @@ use Rattle.rules.specs.Control.{Pointer, Control, atPort, marking, lowes
 use Rattle.rules.proofs.Choices.{Which, which, yes′, no′, any-some, put-same}
 use Rattle.rules.proofs.Control.Intervals.{Clear, clear-narrower}
 use Rattle.rules.proofs.Control.Cover.{rises, Holds, holds, hangs, Look, nothing, something, look}
-use Rattle.rules.proofs.Control.Pointers.{Chain, root, Good, stands, inside, chain-within, chain-level, chain-up, chain-down, chain-put, good-low, good-up, good-put}
+use Rattle.rules.proofs.Control.Pointers.{Chain, root, Good, stands, inside, chain-within, chain-level, chain-up, chain-put, chain-marked, good-low, good-up, good-put}
 use Rattle.rules.proofs.Control.Steps.{same-self, others-none, point-others, resumed, own-unmarked, own-other, own-marked, walk-round, walk-up, walk-resume}
 use Rattle.rules.proofs.Control.Landing.{Landed, landed-on}
 use Rattle.rules.proofs.Control.Choosing.{chosen-skip, chosen-round}
@@ -106,8 +106,7 @@ module _ (p : Plan) (D : Drawn p) (c : Class) (f : ℕ → Bool) (counts : any (
       let l = level-up p D h (k .hung .number) in
       landed-on p D c f {τ = resumed c q h σ} (λ j s. s) (point-others c (σ .holder) (marking q) σ) (omega (arith, k .hung .level))
       (onward (resumed c q h σ) (m + 1) x
-      (rw (same-self c)
-      (chain-down p D q h k (put-same (σ .pointer c) (σ .holder) (marking q)) (chain-put p D (σ .holder) (marking q) (omega arith) ch)))
+      (rw (same-self c) (chain-marked p D q h k ch))
       (rw (same-self c) (good-put p D (σ .holder) (marking q) (k .hung .number) (k .hung .below) t))
       (omega (arith, k .hung .level)))
 

@@ -1,5 +1,5 @@
 -- The turn over the cells is rules' turn, and what holds of the cells holds after it.
-use Prim.Native.Nat.{ℕ, _+_, _*_, _≤_, _<_}
+use Prim.Native.Nat.{ℕ, _+_, _-_, _*_, _≤_, _<_}
 use mathlib.Core.Path.{_≡_, sym, ap, ap₂, _∙_}
 use mathlib.Core.Bool.{Bool, true, false}
 use mathlib.Core.List.{List}
@@ -13,8 +13,11 @@ use Rattle.rules.specs.Call.{same}
 use Rattle.rules.specs.Core.{resting, busy}
 use Rattle.rules.specs.Machine.{Turn}
 use Rattle.rules.specs.Control as rules
-use Rattle.rules.specs.Control.{Control, climb}
+use Rattle.rules.specs.Control.{Control, climb, turning}
+use Rattle.rules.specs.Drawn.{Within}
 use Rattle.rules.proofs.Choices.{Which, which, yes′, no′}
+use Rattle.rules.proofs.Control.Pointers.{chain-within}
+use Rattle.rules.proofs.Control.Nearest.{nearest-near}
 use Rattle.ports.specs.Mask.{digit}
 use Rattle.plan.specs.Tables.{planOf}
 use Rattle.state.specs.Layout.{cells, two-32, timeAt, clock-cell, end-cell, busy-cell, holder-cell, class-cell, standing-cell, nodeCell, maskCell, pointerCell, classOf}
@@ -24,6 +27,7 @@ use Rattle.state.specs.declared.Turn as state
 use Rattle.tie.specs.Kept.{Ready, Kept, countsOf}
 use Rattle.tie.proofs.Walked.Steps.{if-hub}
 use Rattle.tie.proofs.Walked.Frame.{NoPointer, Walkable, digit-up, mask-no-pointer}
+use Rattle.tie.proofs.Walked.Nearest.{nearest-tied}
 use Rattle.tie.proofs.Walked.Walk.{Tied, WalkAt, walk-tied}
 use Rattle.tie.proofs.Walked.Keeping.{core-kept, kept-by}
 use Rattle.tie.proofs.Walked.Settled.{settled-size, settled-same, settled-holder, settled-class, settled-control}
@@ -58,13 +62,14 @@ pointer-no-low b g i l e = omega arith
 
 -- ---- the walk from where control is, or from the root
 
+climb-of : (P : List ℕ) → Ready P → (g : ℕ) → Within (planIn P .hubs) g → climbBy P g ≡ climb (planIn P) g
+unfolding planOf
+climb-of P R g w = if-hub g (climb (planIn P) g) 0 (record { low = w .low; up = omega (arith, w .up, R .drawn .few-hubs) })
+
 pub climb-tied : (P : List ℕ) → Ready P → (s : List ℕ) → Kept (planIn P) s
     → climbBy P (getD s holder-cell 0) ≡ climb (planIn P) (controlOf (planIn P) s .holder)
-unfolding planOf controlOf
-climb-tied P R s K =
-    let w = K .holder in
-    if-hub (getD s holder-cell 0) (climb (planIn P) (getD s holder-cell 0)) 0
-    (record { low = w .low; up = omega (arith, w .up, R .drawn .few-hubs) })
+unfolding controlOf
+climb-tied P R s K = climb-of P R (getD s holder-cell 0) (K .holder)
 
 -- the class sought is the latest grant's
 class-tied : (x : ℕ) (isHigh : Bool) → x ≤ 1 → eqb x (digit isHigh) ≡ same (classOf isHigh) (classOf (eqb x 1))
@@ -98,9 +103,10 @@ module _ (P : List ℕ) (R : Ready P) (s : List ℕ) (K : Kept (planIn P) s) (is
       go (yes′ e) =
           rw (sym tied, e) (walk-tied P R isHigh sought rules.most-looks (getD s holder-cell 0) 0 s (K .holder) walkable)
       go (no′ e) =
-          rw (sym tied, e, climb-tied P R s K)
-          (walk-tied P R isHigh sought rules.most-looks 1 (climb (planIn P) (controlOf (planIn P) s .holder)) s
-          (record { low = omega arith; up = R .drawn .some-hub }) walkable)
+          let t = turning (planIn P) (classOf isHigh) (controlOf (planIn P) s) in
+          let w = chain-within (planIn P) (R .drawn) (nearest-near (planIn P) (R .drawn) (controlOf (planIn P) s .pointer (classOf isHigh)) (getD s holder-cell 0) (K .holder) .chain) in
+          rw (sym tied, e, nearest-tied P R s isHigh (getD s holder-cell 0) (K .holder), climb-of P R (getD s holder-cell 0) (K .holder), climb-of P R t w)
+          (walk-tied P R isHigh sought rules.most-looks t (climb (planIn P) (getD s holder-cell 0) - climb (planIn P) t) s w walkable)
 
   pub chosen-tied :
       Chosen (planIn P) s (chooseBy P isHigh s) (rules.chooseBy (planIn P) (classOf isHigh) (countsOf (planIn P) isHigh s) (controlOf (planIn P) s))

@@ -32,21 +32,27 @@ returns c =
           ∙ sym (ap (λ (d : Turned). d .cells) e),
     )
 
-climb-requires : tie.Need-climb-requires
-climb-requires c κs = search needs
+nearest-requires : tie.Need-nearest-requires
+nearest-requires c κs = search needs
+
+climb-to-requires : tie.Need-climb-to-requires
+climb-to-requires c κs = search needs
 
 walk-requires-2 : tie.Need-walk-requires-2
 walk-requires-2 c κs = search needs
 
 returns-2 : tie.Need-returns-2
 returns-2 c =
-    let w = c .before .before in
-    let a = w .before .before .before .before .args in
-    let e = class-changed (a .p .now) (a .high) (a .s .now) (λ f. w .before .if1 .left (f ∙ sym (byte-digit (a .high)))) in
-    let m = w .climb .ensures .0 in (
-      c .walk2 .ensures .0 ∙ ap₂ (λ (g n : ℕ). walkBy (a .p .now) (a .high) 15 g n (a .s .now) .turn) (omega arith) m
+    let m = c .before .before in
+    let w = m .before in
+    let tested = w .before .before in
+    let a = tested .before .before .before .args in
+    let e =
+    class-changed (a .p .now) (a .high) (a .s .now) (λ f. tested .if1 .left (f ∙ sym (byte-digit (a .high)))) (w .nearest .result)
+    (m .climb-to .result) (w .nearest .ensures) (omega (arith, m .climb-to .ensures .0)) in (
+      c .walk2 .ensures .0 ∙ ap₂ (λ (g n : ℕ). walkBy (a .p .now) (a .high) 15 g n (a .s .now) .turn) (omega arith) (omega arith)
           ∙ sym (ap (λ (d : Turned). d .turn) e),
-      c .walk2 .ensures .1 .0 ∙ ap₂ (λ (g n : ℕ). walkBy (a .p .now) (a .high) 15 g n (a .s .now) .cells) (omega arith) m
+      c .walk2 .ensures .1 .0 ∙ ap₂ (λ (g n : ℕ). walkBy (a .p .now) (a .high) 15 g n (a .s .now) .cells) (omega arith) (omega arith)
           ∙ sym (ap (λ (d : Turned). d .cells) e),
     )
 
@@ -59,6 +65,7 @@ walk-from-spec =
     cast-if1
     walk-requires
     returns
-    climb-requires
+    nearest-requires
+    climb-to-requires
     walk-requires-2
     returns-2)
