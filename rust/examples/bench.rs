@@ -988,9 +988,9 @@ fn moves_table(page: &mut String) {
     writeln!(
         page,
         "\n## Moves\n\nMoves of control in a step that grants or rests, before request 4 of document 02 (a change of class goes up to the root) and after it (up to the \
-         nearest hub). These are counts and not timings. Light and full load are those above, and so are the walks between nodes far apart; under the load of the \
+         nearest hub). These are counts and not timings, and the same on every machine. Light and full load are those above, and so are the walks between nodes far apart; under the load of the \
          cameras the nodes without a reservation ask normal all the time, and behind one grant in four another node, by chance, asks high. All nodes of the last \
-         plan stand at level 5. Where no class changes, as in full load all normal, nothing can be saved.\n\n\
+         plan stand at level 5. Where no class changes, as in full load all normal, or a rest stands before each change, as in light load, nothing can be saved.\n\n\
          | Nodes | Levels | Load | Steps | Class changes | Moves a step before | After | Saved | Steps that take fewer, from the same state |\n\
          |---|---|---|---|---|---|---|---|---|"
     )
