@@ -150,10 +150,7 @@ fn m11_a_change_of_class_turns_at_the_nearest_hub() {
     let figures = &PLAN[..PLAN.find("(hub").unwrap()];
     let nodes = "(node)\n(node)\n";
     let plan = plan(&format!("{figures}(hub\n(hub\n(hub\n{nodes})\n{nodes})\n(node)\n)\n"));
-    let turns = [
-        (Turning::Nearest, [2, 3, 1, 1, 5, 4, 0]),
-        (Turning::Root, [2, 3, 3, 3, 7, 6, 4]),
-    ];
+    let turns = [(Turning::Nearest, [2, 3, 1, 1, 5, 4, 0]), (Turning::Root, [2, 3, 3, 3, 7, 6, 4])];
     for (turning, moves) in turns {
         let mut hub = Hub::new(&plan, Control::turning(&plan, turning));
         for k in [2, 3, 4] {
