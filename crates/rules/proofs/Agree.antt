@@ -1,5 +1,5 @@
--- Over every list of calls, a machine that follows the flat rule gives the flat hub's answers but for moves, and leaves the same core. One induction carries
--- along what is known of its moves.
+-- One call by two machines that give the same turn: the answers are the same but for moves, and so are the cores that are left. And over every list of calls,
+-- a machine that follows the flat rule gives the flat hub's answers but for moves; one induction carries along what is known of its moves.
 use Prim.Native.Nat.{ℕ}
 use mathlib.Core.Path.{_≡_, refl, subst}
 use mathlib.Core.Bool.{Bool, true}
@@ -33,51 +33,76 @@ pub record Costs (p : Plan) (M : Machine) (F : Follows p M) (Cost : ℕ → Type
   pub choose : (c : Class) (f : ℕ → Bool) (σ : M .State) (π : Pointers) → any (p .nodes) f ≡ true → F .Like σ π → Cost (M .choose c f σ .moves)
   pub rests : (σ : M .State) (π : Pointers) → F .Like σ π → Cost (M .rested σ .moves)
 
-module _ (p : Plan) (M : Machine) (F : Follows p M) (Cost : ℕ → Type 0) (K : Costs p M F Cost) where
+-- two machines whose turns go to the same node, from states that are In; Out is what is known of the states that are left, and Cost of the moves of both
+pub record Pair (p : Plan) (M N : Machine) (In Out : M .State → N .State → Type 0) (Cost : ℕ → ℕ → Type 0) : Type 0 where
+  pub none : Cost 0 0
+  pub stays : (σ : M .State) (τ : N .State) → In σ τ → Out σ τ
+  pub node : (c : Class) (f : ℕ → Bool) (σ : M .State) (τ : N .State) → any (p .nodes) f ≡ true → In σ τ → M .choose c f σ .node ≡ N .choose c f τ .node
+  pub state : (c : Class) (f : ℕ → Bool) (σ : M .State) (τ : N .State) → any (p .nodes) f ≡ true → In σ τ
+      → Out (M .choose c f σ .state) (N .choose c f τ .state)
+  pub moves : (c : Class) (f : ℕ → Bool) (σ : M .State) (τ : N .State) → any (p .nodes) f ≡ true → In σ τ
+      → Cost (M .choose c f σ .moves) (N .choose c f τ .moves)
+  pub rested : (σ : M .State) (τ : N .State) → In σ τ → Out (M .rested σ .state) (N .rested τ .state)
+  pub rest-moves : (σ : M .State) (τ : N .State) → In σ τ → Cost (M .rested σ .moves) (N .rested τ .moves)
+
+module _ (p : Plan) (M N : Machine) (In Out : M .State → N .State → Type 0) (Cost : ℕ → ℕ → Type 0) (K : Pair p M N In Out Cost) where
   -- the outcomes of one call
-  record Alike (o : Outcome (M .State)) (r : Outcome Pointers) : Type 0 where
+  pub record Alike (o : Outcome (M .State)) (r : Outcome (N .State)) : Type 0 where
     pub answer : unmoved (o .answer) ≡ unmoved (r .answer)
     pub core : o .hub .core ≡ r .hub .core
-    pub like : F .Like (o .hub .turn) (r .hub .turn)
-    pub cost : Cost (movesOf (o .answer))
+    pub left : Out (o .hub .turn) (r .hub .turn)
+    pub cost : Cost (movesOf (o .answer)) (movesOf (r .answer))
 
-  module _ (σ : M .State) (π : Pointers) (l : F .Like σ π) where
-    handled-alike : (d : ℕ) (s : Core) (x : Sought) → sought p s ≡ x → Alike (handled p M d x s σ) (handled p (flat p) d x s π)
-    handled-alike d s nothing e = record { answer = refl; core = refl; like = F .rests σ π l; cost = K .rests σ π l }
+  module _ (σ : M .State) (τ : N .State) (l : In σ τ) where
+    handled-alike : (d : ℕ) (s : Core) (x : Sought) → sought p s ≡ x → Alike (handled p M d x s σ) (handled p N d x s τ)
+    handled-alike d s nothing e = record { answer = refl; core = refl; left = K .rested σ τ l; cost = K .rest-moves σ τ l }
     handled-alike d s (class c) e =
         let h = sought-counts p s c e in
-        let n = F .node c (countsIn c s) σ π h l in
-        record { answer = rw n; core = rw n; like = F .state c (countsIn c s) σ π h l; cost = K .choose c (countsIn c s) σ π h l }
+        let n = K .node c (countsIn c s) σ τ h l in
+        record { answer = rw n; core = rw n; left = K .state c (countsIn c s) σ τ h l; cost = K .moves c (countsIn c s) σ τ h l }
 
     stepAt-alike : (d : Due) (t : ℕ) (s : Core)
-        → Alike (stepAt p M d t (record { core = s; turn = σ })) (stepAt p (flat p) d t (record { core = s; turn = π }))
-    stepAt-alike never t s = record { answer = refl; core = refl; like = l; cost = K .none }
+        → Alike (stepAt p M d t (record { core = s; turn = σ })) (stepAt p N d t (record { core = s; turn = τ }))
+    stepAt-alike never t s = record { answer = refl; core = refl; left = K .stays σ τ l; cost = K .none }
     stepAt-alike (at d) t s = go (which (before (at d) t))
       where
         go : Which (before (at d) t)
-            → Alike (stepAt p M (at d) t (record { core = s; turn = σ })) (stepAt p (flat p) (at d) t (record { core = s; turn = π }))
+            → Alike (stepAt p M (at d) t (record { core = s; turn = σ })) (stepAt p N (at d) t (record { core = s; turn = τ }))
         go (yes′ e) = rw e (handled-alike d (advance p d s) (sought p (advance p d s)) refl)
-        go (no′ e) = rw e (record { answer = refl; core = refl; like = l; cost = K .none })
+        go (no′ e) = rw e (record { answer = refl; core = refl; left = K .stays σ τ l; cost = K .none })
 
     accepted-alike : (call : Call) (s : Core)
-        → Alike (accepted p M call (record { core = s; turn = σ })) (accepted p (flat p) call (record { core = s; turn = π }))
-    accepted-alike (ask c t k b) s = record { answer = refl; core = refl; like = l; cost = K .none }
-    accepted-alike (off t k) s = record { answer = refl; core = refl; like = l; cost = K .none }
-    accepted-alike (reserve t k n b) s = record { answer = refl; core = refl; like = l; cost = K .none }
-    accepted-alike (until t) s = record { answer = refl; core = refl; like = l; cost = K .none }
+        → Alike (accepted p M call (record { core = s; turn = σ })) (accepted p N call (record { core = s; turn = τ }))
+    accepted-alike (ask c t k b) s = record { answer = refl; core = refl; left = K .stays σ τ l; cost = K .none }
+    accepted-alike (off t k) s = record { answer = refl; core = refl; left = K .stays σ τ l; cost = K .none }
+    accepted-alike (reserve t k n b) s = record { answer = refl; core = refl; left = K .stays σ τ l; cost = K .none }
+    accepted-alike (until t) s = record { answer = refl; core = refl; left = K .stays σ τ l; cost = K .none }
     accepted-alike (step t) s = stepAt-alike (due p s) t s
 
     decided-alike : (v : Verdict) (call : Call) (s : Core)
-        → Alike (decided p M v call (record { core = s; turn = σ })) (decided p (flat p) v call (record { core = s; turn = π }))
-    decided-alike (refuse n) call s = record { answer = refl; core = refl; like = l; cost = K .none }
+        → Alike (decided p M v call (record { core = s; turn = σ })) (decided p N v call (record { core = s; turn = τ }))
+    decided-alike (refuse n) call s = record { answer = refl; core = refl; left = K .stays σ τ l; cost = K .none }
     decided-alike accept call s = accepted-alike call s
 
-  perform-alike : (call : Call) (h : Hub (M .State)) (i : Hub Pointers) → h .core ≡ i .core → F .Like (h .turn) (i .turn)
-      → Alike (perform p M call h) (perform p (flat p) call i)
+  pub perform-alike : (call : Call) (h : Hub (M .State)) (i : Hub (N .State)) → h .core ≡ i .core → In (h .turn) (i .turn)
+      → Alike (perform p M call h) (perform p N call i)
   unfolding perform
   perform-alike call h i e l =
-      subst (λ (s : Core). Alike (perform p M call h) (perform p (flat p) call (record { core = s; turn = i .turn }))) e
+      subst (λ (s : Core). Alike (perform p M call h) (perform p N call (record { core = s; turn = i .turn }))) e
       (decided-alike (h .turn) (i .turn) l (firstRow (rows p (h .core) call)) call (h .core))
+
+module _ (p : Plan) (M : Machine) (F : Follows p M) (Cost : ℕ → Type 0) (K : Costs p M F Cost) where
+  with-flat : Pair p M (flat p) (F .Like) (F .Like) (λ m n. Cost m)
+  with-flat =
+      record {
+        none = K .none;
+        stays = λ σ π l. l;
+        node = F .node;
+        state = F .state;
+        moves = K .choose;
+        rested = F .rests;
+        rest-moves = K .rests;
+      }
 
   -- two runs of the same calls
   pub record Agrees (m : Made (M .State)) (n : Made Pointers) : Type 0 where
@@ -91,8 +116,10 @@ module _ (p : Plan) (M : Machine) (F : Follows p M) (Cost : ℕ → Type 0) (K :
   agrees [] = record { past = refl; core = refl; like = F .start; costs = every-none }
   agrees (call ∷ earlier) =
       let a = agrees earlier in
-      let o = perform-alike call (made p M earlier .hub) (made p (flat p) earlier .hub) (a .core) (a .like) in
-      record { past = cc; core = o .core; like = o .like; costs = every-more (o .cost) (a .costs) }
+      let o =
+      perform-alike p M (flat p) (F .Like) (F .Like) (λ m n. Cost m) with-flat call (made p M earlier .hub) (made p (flat p) earlier .hub) (a .core)
+      (a .like) in
+      record { past = cc; core = o .core; like = o .left; costs = every-more (o .cost) (a .costs) }
 
 module _ (p : Plan) (M : Machine) (F : Follows p M) (calls : List Call) where
   free : Costs p M F (λ n. Unit {0})

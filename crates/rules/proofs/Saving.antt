@@ -7,16 +7,15 @@ use native.Mathlib.Omega.{arith}
 use Rattle.rules.specs.Choice.{any}
 use Rattle.rules.specs.Plan.{Plan}
 use Rattle.rules.specs.Drawn.{Drawn}
-use Rattle.rules.specs.Call.{Class, same, Call, ask, off, reserve, until, step}
-use Rattle.rules.specs.Core.{Core, advance, countsIn, Due, never, at, due, before, Sought, nothing, class, sought}
-use Rattle.rules.specs.Rows.{Verdict, accept, refuse, firstRow, rows}
-use Rattle.rules.specs.Machine.{handled, stepAt, decided, perform}
+use Rattle.rules.specs.Call.{Class, same, Call}
+use Rattle.rules.specs.Core.{Core}
+use Rattle.rules.specs.Machine.{Hub}
 use Rattle.rules.specs.Flat.{Pointers, flat}
 use Rattle.rules.specs.Control.{Control, climb, turning, most-looks, chooseBy, chooseFromRoot, control, fromRoot}
 use Rattle.rules.specs.Run.{made}
-use Rattle.rules.specs.Saving.{Saves, SavesOn}
+use Rattle.rules.specs.Saving.{SavesOn}
 use Rattle.rules.proofs.Choices.{Which, which, yes′, no′}
-use Rattle.rules.proofs.Agree.{sought-counts, turns-like}
+use Rattle.rules.proofs.Agree.{Pair, perform-alike, turns-like}
 use Rattle.rules.proofs.Control.Pointers.{chain-within}
 use Rattle.rules.proofs.Control.Nearest.{nearest-near}
 use Rattle.rules.proofs.Control.Like.{Like, landed-node, walk-grants, choose-lands, root-lands, control-follows, from-root-follows}
@@ -43,35 +42,24 @@ module _ (p : Plan) (D : Drawn p) (σ : Control) (π : Pointers) (l : Like p D �
             line-no-more p D c f σ (l .passing c) most-looks (walk-grants p D c f σ π some l) (climb p (σ .holder) - climb p t) (n .chain) (l .good c) in
             rw e (rw up at w)
 
-  handled-saves : (d : ℕ) (s : Core) (x : Sought) → sought p s ≡ x → Saves (handled p (control p) d x s σ) (handled p (fromRoot p) d x s σ)
-  handled-saves d s nothing e = record { answer = refl; core = refl; moves = omega arith }
-  handled-saves d s (class c) e =
-      let h = sought-counts p s c e in
-      let n = same-node c (countsIn c s) h in
-      record { answer = rw n; core = rw n; moves = no-more-moves c (countsIn c s) h }
-
-  stepAt-saves : (d : Due) (t : ℕ) (s : Core)
-      → Saves (stepAt p (control p) d t (record { core = s; turn = σ })) (stepAt p (fromRoot p) d t (record { core = s; turn = σ }))
-  stepAt-saves never t s = record { answer = refl; core = refl; moves = omega arith }
-  stepAt-saves (at d) t s = go (which (before (at d) t))
-    where
-      go : Which (before (at d) t)
-          → Saves (stepAt p (control p) (at d) t (record { core = s; turn = σ })) (stepAt p (fromRoot p) (at d) t (record { core = s; turn = σ }))
-      go (yes′ e) = rw e (handled-saves d (advance p d s) (sought p (advance p d s)) refl)
-      go (no′ e) = rw e (record { answer = refl; core = refl; moves = omega arith })
-
-  decided-saves : (v : Verdict) (call : Call) (s : Core)
-      → Saves (decided p (control p) v call (record { core = s; turn = σ })) (decided p (fromRoot p) v call (record { core = s; turn = σ }))
-  decided-saves (refuse n) call s = record { answer = refl; core = refl; moves = omega arith }
-  decided-saves accept (ask c t k b) s = record { answer = refl; core = refl; moves = omega arith }
-  decided-saves accept (off t k) s = record { answer = refl; core = refl; moves = omega arith }
-  decided-saves accept (reserve t k n b) s = record { answer = refl; core = refl; moves = omega arith }
-  decided-saves accept (until t) s = record { answer = refl; core = refl; moves = omega arith }
-  decided-saves accept (step t) s = stepAt-saves (due p s) t s
+  -- both rules from σ
+  both : Pair p (control p) (fromRoot p) (λ τ υ. (τ ≡ σ) × (υ ≡ σ)) (λ τ υ. Unit {0}) _≤_
+  both =
+      record {
+        none = omega arith;
+        stays = λ τ υ e. tt;
+        node = λ c f τ υ some (e, i). rw (e, i) (same-node c f some);
+        state = λ c f τ υ some e. tt;
+        moves = λ c f τ υ some (e, i). rw (e, i) (no-more-moves c f some);
+        rested = λ τ υ e. tt;
+        rest-moves = λ τ υ (e, i). rw (e, i) (omega arith);
+      }
 
   pub like-saves : (s : Core) (call : Call) → SavesOn p (record { core = s; turn = σ }) call
-  unfolding perform
-  like-saves s call = decided-saves (firstRow (rows p s call)) call s
+  like-saves s call =
+      let h : Hub Control = record { core = s; turn = σ } in
+      let o = perform-alike p (control p) (fromRoot p) (λ τ υ. (τ ≡ σ) × (υ ≡ σ)) (λ τ υ. Unit {0}) _≤_ both call h h refl (refl, refl) in
+      record { answer = o .answer; core = o .core; moves = o .cost }
 
 module _ (p : Plan) (D : Drawn p) (calls : List Call) (call : Call) where
   -- at every place of a run by the new rule

@@ -18,7 +18,7 @@ example =
     ∷ (grant 112000 3 high 117000 2 ∷ grant 117000 1 normal 119000 1 ∷ rest 119000 0 ∷ []) before until 200000 ⟶ taken
     ∷ [])
 
--- a change of class takes control to the root, and the lower hub resumes at its pointer
+-- the change to high takes control to the root, as no high pointer is marked, and at the change back the lower hub resumes at its pointer
 abbrev pub class-change-and-resume : Row
 class-change-and-resume =
     running plan01 4 2
