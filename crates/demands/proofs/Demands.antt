@@ -12,6 +12,7 @@ use Rattle.rules.specs.Run.{Entry, made}
 use Rattle.rules.specs.Agree.{plain, movesOf, Every}
 use Rattle.rules.specs.Demand.{Holds3}
 use Rattle.rules.specs.Saving.{SavesOn}
+use Rattle.rules.specs.Travel.{Travels}
 use Rattle.rules.specs.Promises.{NoTimeLost, Admits}
 use Rattle.rules.proofs.Acceptance.{acceptable-taken, taken-acceptable}
 use Rattle.rules.proofs.AlwaysSound.{Good, good}
@@ -72,6 +73,7 @@ module _ (P : List ℕ) (R : Ready P) (past : List Entry) (m : Made P past (made
         turns-agree = ap (map plain) same ∙ kept .turns-agree;
         by-rules = same;
         few-moves = subst (Every (λ a. movesOf a ≤ 4 * (levels p - 1))) (sym same) (kept .few-moves);
+        travels = subst (Travels p) (sym same) (kept .travels);
         demand-3 = subst (Holds3 p) (sym same) (kept .demand-3);
         hub = tied .hub;
         answers = λ call. agrees call .answer;

@@ -10,6 +10,7 @@ use Rattle.rules.specs.Run.{made}
 use Rattle.rules.proofs.Control.Like.{control-follows}
 use Rattle.rules.proofs.Control.Runs.{control-turns-agree, control-moves}
 use Rattle.rules.proofs.Saving.{control-saves}
+use Rattle.rules.proofs.Travel.{control-travels}
 use Rattle.rules.proofs.ControlDemand3.{control-demand3}
 use Rattle.rules.proofs.NoTimeLost.{no-time-lost}
 use Rattle.rules.proofs.Stable.{clock-grows}
@@ -34,6 +35,7 @@ module _ (p : Plan) (drawn : Drawn p) (calls : List Call) where
         turns-agree = control-turns-agree p drawn calls;
         few-moves = control-moves p drawn calls;
         saves = control-saves p drawn calls;
+        travels = control-travels p drawn calls;
         demand-3 = control-demand3 p drawn calls;
         no-time-lost = no-time-lost p (drawn .figures) (control p) (control-follows p drawn) (drawn .some-node) calls;
         clock-grows = one-more;

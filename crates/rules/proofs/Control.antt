@@ -13,3 +13,4 @@ pub mod Like
 pub mod Twins
 pub mod Fewer
 pub mod Runs
+pub mod Rounds

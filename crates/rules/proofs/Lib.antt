@@ -24,6 +24,8 @@ pub mod AlwaysTold
 pub mod HighExactly
 pub mod Stable
 pub mod Places
+pub mod Travel
+pub mod TravelRuns
 pub mod Unchanged
 pub mod Admission
 pub mod NoTimeLost

@@ -11,9 +11,11 @@ pub mod Control
 pub mod Run
 pub mod Agree
 pub mod Saving
+pub mod Travel
 pub mod Words
 pub mod Demand
 pub mod Promises
 pub mod Sample
 pub mod Slips
 pub mod TurningSlips
+pub mod TravelRuns

@@ -30,6 +30,7 @@ module _ (p : Plan) (D : Drawn p) (c : Class) (f : ℕ → Bool) where
             (λ j l u. cl .none j (omega arith) (omega arith));
         good = rw (same-self c) good;
         chain = rw (same-self c) chain;
+        unmarked = rw (same-self c) (ap (λ (y : Pointer). y .marked) (put-same (σ .pointer c) (σ .holder) (atPort (q + 1))));
         latest = refl;
         others = point-others c (σ .holder) (atPort (q + 1)) σ;
         few = omega arith;

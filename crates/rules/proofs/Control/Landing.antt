@@ -1,7 +1,7 @@
 -- Where a walk lands: at the flat rule's choice, with the pointers behind it, in few moves. And how that is carried over what a look passes.
 use Prim.Native.Nat.{ℕ, _+_, _≤_}
 use mathlib.Core.Path.{_≡_}
-use mathlib.Core.Bool.{Bool}
+use mathlib.Core.Bool.{Bool, false}
 use native.Mathlib.Omega.{arith}
 use Rattle.rules.specs.Plan.{Plan}
 use Rattle.rules.specs.Call.{Class}
@@ -18,6 +18,7 @@ module _ (p : Plan) (D : Drawn p) (c : Class) (f : ℕ → Bool) where
     pub chosen : Chosen f (p .nodes) (x + 1) (t .node)
     pub good : Good p D (t .state .pointer c) (t .node) 1
     pub chain : Chain p (t .state .pointer c) (t .state .holder)
+    pub unmarked : t .state .pointer c (t .state .holder) .marked ≡ false
     pub latest : t .state .latest ≡ c
     pub others : Others c (σ .pointer) (t .state .pointer)
     pub few : t .moves ≤ bound
@@ -30,6 +31,7 @@ module _ (p : Plan) (D : Drawn p) (c : Class) (f : ℕ → Bool) where
         chosen = n (t .node) (l .chosen);
         good = l .good;
         chain = l .chain;
+        unmarked = l .unmarked;
         latest = l .latest;
         others = others-trans o (l .others);
         few = omega (arith, l .few);

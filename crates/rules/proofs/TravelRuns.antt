@@ -1,0 +1,28 @@
+-- The worked runs, by one computation. A lesser bound would be passed by those that are runs, and the bound is passed where a run is broken.
+use mathlib.Core.Path.{_≡_, refl, sym, ap, _∙_}
+use mathlib.Core.Bool.{Bool, true, _&&_}
+use mathlib.Core.List.{List, [], _∷_, _++_}
+use lib.ListN.{take, take-append-drop}
+use Rattle.rules.specs.Choice.{any, sum, first}
+use Rattle.rules.specs.Core.{advance, countsIn, counts, held, due, sought}
+use Rattle.rules.specs.Control.{below, lowest, walk, led, nearest, chooseBy}
+use Rattle.rules.specs.Machine.{perform}
+use Rattle.rules.specs.Run.{Entry, made}
+use Rattle.rules.specs.Travel.{returnsIn, returnsBy, returns, travel, unbroken, RunOfGrants}
+use Rattle.rules.specs.TravelRuns.{Worked, whole, upTo, since, starts, figures, worked-runs, AllRight}
+use Rattle.rules.proofs.Choices.{true-false, and-both}
+
+pub worked-right : AllRight worked-runs
+unfolding figures any sum first advance countsIn counts held due sought below lowest walk led nearest chooseBy perform made returnsIn returnsBy returns travel unbroken
+worked-right = refl
+
+-- a list that the table calls a run is one of those that `Travels` speaks of
+pub is-run : (x : Worked) → figures x .is-run ≡ true → RunOfGrants (x .class) (whole x)
+unfolding figures
+is-run x e =
+    let (a, b) = and-both (starts x (upTo x)) (unbroken (x .class) (since x)) e in
+    go (upTo x) (take-append-drop (x .behind) (whole x)) a b
+  where
+    go : (l : List Entry) → since x ++ l ≡ whole x → starts x l ≡ true → unbroken (x .class) (since x) ≡ true → RunOfGrants (x .class) (whole x)
+    go [] p a b = absurd (true-false a refl)
+    go (first ∷ before) p a b = record { before = before; first = first; since = since x; later = []; place = sym p; starts = a; goes-on = b }

@@ -1,0 +1,102 @@
+-- Request 13 of document 02, "A round's travel": how far control travels in a run of grants of one class, by how often the root's pointer returns to port 1.
+use Prim.Native.Nat.{ℕ, zero, suc, _+_, _-_, _*_, _≤_}
+use mathlib.Core.Path.{_≡_}
+use mathlib.Core.Bool.{Bool, true, false, _&&_}
+use mathlib.Core.List.{List, [], _∷_, _++_, map}
+use lib.Dec.{eqb}
+use Rattle.rules.specs.Choice.{if_then_else_}
+use Rattle.rules.specs.Plan.{Plan, Port, node, empty, hub}
+use Rattle.rules.specs.Call.{Class, same, Answer, taken, refused, grant, rest, quiet}
+use Rattle.rules.specs.Core.{advance, countsIn}
+use Rattle.rules.specs.Machine.{Hub}
+use Rattle.rules.specs.Control.{Control, atPort, lowest, point, handTo, down, up, most-looks, turning, control}
+use Rattle.rules.specs.Run.{Entry, made}
+use Rattle.rules.specs.Agree.{movesOf}
+
+-- Returns of the root's pointer to port 1 in a walk, look by look beside `walk`
+module _ (p : Plan) (c : Class) (f : ℕ → Bool) where
+  -- rule 3 at port q: a node ends the walk, at a hub it goes on
+  abbrev pub returnsAt : (Control → ℕ) → Control → ℕ → Port → ℕ
+  returnsAt again σ q (node k) = 0
+  returnsAt again σ q empty = 0
+  returnsAt again σ q (hub h) = again (down c q h σ)
+
+  -- rule 4: at the root it is a return
+  abbrev pub returnsUp : (Control → ℕ) → Control → ℕ
+  returnsUp again σ =
+      if eqb (σ .holder) 1 then again (point c 1 (atPort 1) σ) + 1
+      else again (up p c σ)
+
+  abbrev pub returnsBehind : (Control → ℕ) → Control → ℕ → ℕ
+  returnsBehind again σ q =
+      if eqb q 0 then returnsUp again σ
+      else returnsAt again σ q (p .port (σ .holder) q)
+
+  unfoldable pub returnsIn : ℕ → Control → ℕ
+  returnsIn zero σ = 0
+  returnsIn (suc looks) σ = returnsBehind (returnsIn looks) σ (lowest p f (σ .holder) (σ .pointer c (σ .holder) .port))
+
+-- in a turn of class c, whose walk starts at the holder or, where the class differs from that of the latest grant, where control turns
+unfoldable pub returnsBy : Plan → Class → (ℕ → Bool) → Control → ℕ
+returnsBy p c f σ =
+    if same c (σ .latest) then returnsIn p c f most-looks σ
+    else returnsIn p c f most-looks (handTo (turning p c σ) σ)
+
+-- in the call to which hub h gave this answer: only a grant has a walk
+abbrev pub returnsOf : Plan → Hub Control → Answer → ℕ
+returnsOf p h taken = 0
+returnsOf p h (refused n) = 0
+returnsOf p h (grant s k c end moves) = returnsBy p c (countsIn c (advance p s (h .core))) (h .turn)
+returnsOf p h (rest s moves) = 0
+returnsOf p h quiet = 0
+
+-- the cascade that a list of calls leaves, the latest first
+abbrev pub leftBy : Plan → List Entry → Hub Control
+leftBy p past = made p (control p) (map (λ (e : Entry). e .call) past) .hub
+
+-- w: the returns in the calls `since`, which were made behind `before`
+unfoldable pub returns : Plan → List Entry → List Entry → ℕ
+returns p before [] = 0
+returns p before (e ∷ since) = returns p before since + returnsOf p (leftBy p (since ++ before)) (e .answer)
+
+-- the moves in the calls `since`
+unfoldable pub travel : List Entry → ℕ
+travel [] = 0
+travel (e ∷ since) = travel since + movesOf (e .answer)
+
+abbrev pub grantsIn : Class → Answer → Bool
+grantsIn c taken = false
+grantsIn c (refused n) = false
+grantsIn c (grant s k d end moves) = same d c
+grantsIn c (rest s moves) = false
+grantsIn c quiet = false
+
+-- no rest and no grant of the other class; events, refused calls and quiet steps may stand between
+abbrev pub goesOn : Class → Answer → Bool
+goesOn c taken = true
+goesOn c (refused n) = true
+goesOn c (grant s k d end moves) = same d c
+goesOn c (rest s moves) = false
+goesOn c quiet = true
+
+unfoldable pub unbroken : Class → List Entry → Bool
+unbroken c [] = true
+unbroken c (e ∷ since) = goesOn c (e .answer) && unbroken c since
+
+-- a run of grants of class c in a list of calls and answers: the grant `first`, and the calls `since` then, up to some place
+pub record RunOfGrants (c : Class) (whole : List Entry) : Type 0 where
+  pub before : List Entry
+  pub first : Entry
+  pub since : List Entry
+  pub later : List Entry
+  pub place : whole ≡ later ++ (since ++ (first ∷ before))
+  pub starts : grantsIn c (first .answer) ≡ true
+  pub goes-on : unbroken c since ≡ true
+
+-- 2 × (H - 1) × (w + 1)
+abbrev pub farthest : Plan → ℕ → ℕ
+farthest p w = 2 * (p .hubs - 1) * (w + 1)
+
+-- the moves after the first grant of every run, by the returns in the steps behind it
+pub record Travels (p : Plan) (whole : List Entry) : Type 0 where
+  pub few : (c : Class) (r : RunOfGrants c whole) → travel (r .since) ≤ farthest p (returns p (r .first ∷ r .before) (r .since))
