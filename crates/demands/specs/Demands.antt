@@ -59,7 +59,8 @@ module _ (P : List ℕ) (p : Plan) (past : List Entry) (s : List ℕ) where
     pub by-rules : past ≡ made p (control p) (callsOf past) .past
     -- at most 4 × (L - 1) moves in each grant and rest
     pub few-moves : Every (λ a. movesOf a ≤ 4 * (levels p - 1)) past
-    -- Request 13 of document 02: in a run of grants of one class, with w returns of the root's pointer, at most 2 × (H - 1) × (w + 1) moves after the first
+    -- Request 13 of document 02: in a run of grants of one class, with w returns of the root's pointer, which the answers tell, at most 2 × (H - 1) × (w + 1)
+    -- moves after the first
     pub travels : Travels p past
     -- Demand 3, one claim over the whole list
     pub demand-3 : Holds3 p past

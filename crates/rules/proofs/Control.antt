@@ -13,4 +13,8 @@ pub mod Like
 pub mod Twins
 pub mod Fewer
 pub mod Runs
+pub mod Looks
 pub mod Rounds
+pub mod Tours
+pub mod Around
+pub mod Again

@@ -42,16 +42,17 @@ spent-more n u c k w =
 pub spent-mono : (n : ℕ) (u v c : ℕ → ℕ) → ((j : ℕ) → Within n j → u j ≤ v j) → spent n u c ≤ spent n v c
 spent-mono n u v c h = sum-mono n (λ j. u j * c j) (λ j. v j * c j) (λ j w. mul-le-mul-right (c j) (h j w))
 
--- one more use is within the limits where k has not used its own up
-pub more-within : (n : ℕ) (u limit : ℕ → ℕ) (k : ℕ) → ((j : ℕ) → Within n j → u j ≤ limit j) → u k < limit k
-    → (j : ℕ) → Within n j → more u k j ≤ limit j
-more-within n u limit k all left j w = go (same-or-not j k)
+-- a table within limits, with k's value changed to one within its own
+pub put-within : (n : ℕ) (u limit : ℕ → ℕ) (k v : ℕ) → ((j : ℕ) → Within n j → u j ≤ limit j) → v ≤ limit k
+    → (j : ℕ) → Within n j → put u k v j ≤ limit j
+put-within n u limit k v all less j w = go (same-or-not j k)
   where
-    go : Same j k → more u k j ≤ limit j
+    go : Same j k → put u k v j ≤ limit j
     go (it e) = let l = ap limit e in rw (eq-eqb j k e) (omega arith)
     go (other d) = rw (ne-eqb j k d) (all j w)
 
+-- there is room for one more use where k has not used its own up
 pub room : (n : ℕ) (u limit c : ℕ → ℕ) (k : ℕ) → Within n k → ((j : ℕ) → Within n j → u j ≤ limit j) → u k < limit k
     → spent n u c + c k ≤ spent n limit c
 room n u limit c k w all left =
-    omega (arith, spent-more n u c k w, spent-mono n (more u k) limit c (more-within n u limit k all left))
+    omega (arith, spent-more n u c k w, spent-mono n (more u k) limit c (put-within n u limit k (u k + 1) all (omega arith)))

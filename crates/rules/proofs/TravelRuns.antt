@@ -1,19 +1,20 @@
 -- The worked runs, by one computation. A lesser bound would be passed by those that are runs, and the bound is passed where a run is broken.
-use mathlib.Core.Path.{_≡_, refl, sym, ap, _∙_}
-use mathlib.Core.Bool.{Bool, true, _&&_}
+use mathlib.Core.Path.{_≡_, refl, sym}
+use mathlib.Core.Bool.{true}
 use mathlib.Core.List.{List, [], _∷_, _++_}
-use lib.ListN.{take, take-append-drop}
+use lib.ListN.{take-append-drop}
 use Rattle.rules.specs.Choice.{any, sum, first}
 use Rattle.rules.specs.Core.{advance, countsIn, counts, held, due, sought}
 use Rattle.rules.specs.Control.{below, lowest, walk, led, nearest, chooseBy}
 use Rattle.rules.specs.Machine.{perform}
 use Rattle.rules.specs.Run.{Entry, made}
-use Rattle.rules.specs.Travel.{returnsIn, returnsBy, returns, travel, unbroken, RunOfGrants}
+use Rattle.rules.specs.Travel.{returnsIn, returnsBy, returns, latestNode, rounds, travel, unbroken, RunOfGrants}
 use Rattle.rules.specs.TravelRuns.{Worked, whole, upTo, since, starts, figures, worked-runs, AllRight}
 use Rattle.rules.proofs.Choices.{true-false, and-both}
 
 pub worked-right : AllRight worked-runs
-unfolding figures any sum first advance countsIn counts held due sought below lowest walk led nearest chooseBy perform made returnsIn returnsBy returns travel unbroken
+unfolding figures any sum first advance countsIn counts held due sought below lowest walk led nearest chooseBy perform made
+    returnsIn returnsBy returns latestNode rounds travel unbroken
 worked-right = refl
 
 -- a list that the table calls a run is one of those that `Travels` speaks of

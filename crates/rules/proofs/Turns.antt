@@ -19,13 +19,14 @@ pub record Counting (n : ℕ) (f : ℕ → Bool) (k : ℕ) : Type 0 where
   pub within : Within n k
   pub holds : f k ≡ true
 
+-- the flat rule's choice is one
+pub chosen-counts : {f : ℕ → Bool} {n a k : ℕ} → 1 ≤ a → Chosen f n a k → Counting n f k
+chosen-counts h (ahead l u t less) = record { within = record { low = omega arith; up = u }; holds = t }
+chosen-counts h (round l b u t none less) = record { within = record { low = l; up = u }; holds = t }
+
 module _ (p : Plan) where
   in-turn-counts : (f : ℕ → Bool) (a : ℕ) → any (p .nodes) f ≡ true → Within (p .nodes) a → Counting (p .nodes) f (inTurn p f a)
-  in-turn-counts f a some w = go (chosen p f a some (w .low) (omega (arith, w .up)))
-    where
-      go : {k : ℕ} → Chosen f (p .nodes) a k → Counting (p .nodes) f k
-      go (ahead l u t less) = record { within = record { low = omega (arith, w .low); up = u }; holds = t }
-      go (round l b u t none less) = record { within = record { low = l; up = u }; holds = t }
+  in-turn-counts f a some w = chosen-counts (w .low) (chosen p f a some (w .low) (omega (arith, w .up)))
 
   behind-within : (k : ℕ) → Within (p .nodes) k → Within (p .nodes) (behind p k)
   behind-within k w = go (eqb k (p .nodes)) refl

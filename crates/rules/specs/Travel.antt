@@ -3,7 +3,7 @@ use Prim.Native.Nat.{ℕ, zero, suc, _+_, _-_, _*_, _≤_}
 use mathlib.Core.Path.{_≡_}
 use mathlib.Core.Bool.{Bool, true, false, _&&_}
 use mathlib.Core.List.{List, [], _∷_, _++_, map}
-use lib.Dec.{eqb}
+use lib.Dec.{eqb, leb}
 use Rattle.rules.specs.Choice.{if_then_else_}
 use Rattle.rules.specs.Plan.{Plan, Port, node, empty, hub}
 use Rattle.rules.specs.Call.{Class, same, Answer, taken, refused, grant, rest, quiet}
@@ -59,6 +59,30 @@ unfoldable pub returns : Plan → List Entry → List Entry → ℕ
 returns p before [] = 0
 returns p before (e ∷ since) = returns p before since + returnsOf p (leftBy p (since ++ before)) (e .answer)
 
+-- the node of the latest grant in a list, 0 before the first
+abbrev pub nodeBy : ℕ → Answer → ℕ
+nodeBy j taken = j
+nodeBy j (refused n) = j
+nodeBy j (grant s k c end moves) = k
+nodeBy j (rest s moves) = j
+nodeBy j quiet = j
+
+unfoldable pub latestNode : List Entry → ℕ
+latestNode [] = 0
+latestNode (e ∷ past) = nodeBy (latestNode past) (e .answer)
+
+-- w as the answers alone tell it: grants to a node that doesn't stand behind the one granted before it
+abbrev pub roundBy : ℕ → Answer → ℕ
+roundBy j taken = 0
+roundBy j (refused n) = 0
+roundBy j (grant s k c end moves) = if leb k j then 1 else 0
+roundBy j (rest s moves) = 0
+roundBy j quiet = 0
+
+unfoldable pub rounds : List Entry → List Entry → ℕ
+rounds before [] = 0
+rounds before (e ∷ since) = rounds before since + roundBy (latestNode (since ++ before)) (e .answer)
+
 -- the moves in the calls `since`
 unfoldable pub travel : List Entry → ℕ
 travel [] = 0
@@ -97,6 +121,7 @@ pub record RunOfGrants (c : Class) (whole : List Entry) : Type 0 where
 abbrev pub farthest : Plan → ℕ → ℕ
 farthest p w = 2 * (p .hubs - 1) * (w + 1)
 
--- the moves after the first grant of every run, by the returns in the steps behind it
+-- Of every run: the moves after its first grant are at most those, by the returns in the steps behind that grant; and these returns can be read off the answers
 pub record Travels (p : Plan) (whole : List Entry) : Type 0 where
   pub few : (c : Class) (r : RunOfGrants c whole) → travel (r .since) ≤ farthest p (returns p (r .first ∷ r .before) (r .since))
+  pub read-off : (c : Class) (r : RunOfGrants c whole) → returns p (r .first ∷ r .before) (r .since) ≡ rounds (r .first ∷ r .before) (r .since)

@@ -1,24 +1,25 @@
--- Runs worked out by hand for request 13 of document 02: three that travel as far as a run may, and two lists that travel farther: in one there is a rest
--- between, in the other a grant of the other class.
+-- Runs worked out by hand for request 13 of document 02: three that travel as far as a run may, one that doesn't, and two lists that travel farther, since in one
+-- there is a rest between, and in the other a grant of the other class.
 use Prim.Native.Nat.{ℕ}
 use mathlib.Core.Path.{_≡_}
 use mathlib.Core.Bool.{Bool, true, false, _&&_}
 use mathlib.Core.List.{List, [], _∷_, reverse, map}
 use lib.ListN.{getD, take, drop}
 use Rattle.rules.specs.Plan.{Plan, node, empty, hub}
-use Rattle.rules.specs.Call.{Class, normal, high, Call, ask, off, reserve, until, step, Answer, taken, refused, grant, rest, quiet}
+use Rattle.rules.specs.Call.{Class, normal, high, Call, ask, reserve, step, Answer, taken, refused, grant, rest, quiet}
 use Rattle.rules.specs.Control.{control}
 use Rattle.rules.specs.Run.{Entry, made, answers}
-use Rattle.rules.specs.Travel.{returns, travel, grantsIn, unbroken, farthest}
+use Rattle.rules.specs.Travel.{returns, rounds, travel, grantsIn, unbroken, farthest}
 use Rattle.rules.specs.Sample.{plan01}
 
--- what is worked out of a list of calls: the answers; of the calls behind the first grant, whether they and it are a run of grants, their moves, and the returns of
--- the root's pointer; and how far a run with so many returns may travel
+-- what is worked out of a list of calls: the answers; of the calls behind the first grant, whether they and it are a run of grants, their moves, the returns of
+-- the root's pointer, and these as the answers tell them; and how far a run with so many returns may travel
 pub record Figures : Type 0 where
   pub told : List Answer
   pub is-run : Bool
   pub moves : ℕ
   pub turned : ℕ
+  pub by-answers : ℕ
   pub most : ℕ
 
 pub record Worked : Type 0 where
@@ -52,6 +53,7 @@ module _ (x : Worked) where
         is-run = starts upTo && unbroken (x .class) since;
         moves = travel since;
         turned = returns (x .plan) upTo since;
+        by-answers = rounds upTo since;
         most = farthest (x .plan) (returns (x .plan) upTo since);
       }
 
@@ -92,6 +94,7 @@ one-round =
             is-run = true;
             moves = 4;
             turned = 0;
+            by-answers = 0;
             most = 4;
           };
     }
@@ -119,6 +122,7 @@ two-rounds =
             is-run = true;
             moves = 8;
             turned = 1;
+            by-answers = 1;
             most = 8;
           };
     }
@@ -145,6 +149,26 @@ high-rounds =
             is-run = true;
             moves = 4;
             turned = 1;
+            by-answers = 1;
+            most = 4;
+          };
+    }
+
+-- node 2 twice on end: the search goes round, up to the root and down again
+abbrev pub once-more : Worked
+once-more =
+    record {
+      plan = plan01;
+      class = normal;
+      calls = ask normal 0 2 512 ∷ step 100000 ∷ ask normal 0 2 512 ∷ step 100000 ∷ [];
+      behind = 2;
+      expected =
+          record {
+            told = taken ∷ grant 0 2 normal 1512 1 ∷ taken ∷ grant 1512 2 normal 3024 2 ∷ [];
+            is-run = true;
+            moves = 2;
+            turned = 1;
+            by-answers = 1;
             most = 4;
           };
     }
@@ -167,11 +191,12 @@ with-a-rest =
             is-run = false;
             moves = 3;
             turned = 0;
+            by-answers = 0;
             most = 2;
           };
     }
 
--- behind it node 4's high request takes control up to the root, and node 3's normal one down again
+-- behind it node 4's high request takes control up to the root, and node 3's normal one down again; the answers would tell a return where there was none
 abbrev pub with-the-other-class : Worked
 with-the-other-class =
     record {
@@ -189,12 +214,13 @@ with-the-other-class =
             is-run = false;
             moves = 3;
             turned = 0;
+            by-answers = 1;
             most = 2;
           };
     }
 
 abbrev pub worked-runs : List Worked
-worked-runs = one-round ∷ two-rounds ∷ high-rounds ∷ with-a-rest ∷ with-the-other-class ∷ []
+worked-runs = one-round ∷ two-rounds ∷ high-rounds ∷ once-more ∷ with-a-rest ∷ with-the-other-class ∷ []
 
 -- row by row
 abbrev pub AllRight : List Worked → Type 0

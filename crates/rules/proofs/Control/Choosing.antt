@@ -22,11 +22,6 @@ least {f} {a} {j} {k} l t e l′ t′ e′ = go (which (ltb j k)) (which (ltb k 
     go (no′ s) (yes′ r) = absurd (true-false t′ (e k l′ (ltb-true k j r)))
     go (no′ s) (no′ r) = omega (arith, ltb-false j k s, ltb-false k j r)
 
--- the choice is a node
-pub chosen-low : {f : ℕ → Bool} {n a k : ℕ} → 1 ≤ a → Chosen f n a k → 1 ≤ k
-chosen-low h (ahead l u t e) = omega arith
-chosen-low h (round l m u t e i) = l
-
 -- at most one node is the choice
 pub chosen-same : {f : ℕ → Bool} {n a j k : ℕ} → Chosen f n a j → Chosen f n a k → j ≡ k
 chosen-same {j = j} {k = k} (ahead l u t e) (ahead l′ u′ t′ e′) = least l t e l′ t′ e′

@@ -15,9 +15,10 @@ use Rattle.rules.proofs.Choices.{Which, which, yes′, no′}
 use Rattle.rules.proofs.InTurn.{chosen}
 use Rattle.rules.proofs.Follows.{Follows}
 use Rattle.rules.proofs.Agree.{Costs}
+use Rattle.rules.proofs.Turns.{chosen-counts}
 use Rattle.rules.proofs.Control.Pointers.{Chain, root, Good, stands, root-within, chain-within, chain-level, good-up, good-from-root}
 use Rattle.rules.proofs.Control.Steps.{same-eq, others-none}
-use Rattle.rules.proofs.Control.Choosing.{chosen-low, chosen-same, chosen-behind, behind-within}
+use Rattle.rules.proofs.Control.Choosing.{chosen-same, chosen-behind, behind-within}
 use Rattle.rules.proofs.Control.Landing.{Landed, landed-on}
 use Rattle.rules.proofs.Control.Levels.{level-up, levels-up}
 use Rattle.rules.proofs.Control.Walk.{DownAt, down-lands}
@@ -54,7 +55,7 @@ module _ (p : Plan) (D : Drawn p) where
   -- so it grants a node
   pub walk-grants : (c : Class) (f : ℕ → Bool) (σ : Control) (π : Pointers) → any (p .nodes) f ≡ true → Like σ π
       → (g m : ℕ) → Chain p (σ .pointer c) g → walk p c f most-looks (handTo g σ) m .node ≡ 0 → ⊥
-  walk-grants c f σ π some l g m ch e = omega (arith, chosen-low (omega arith) (walk-lands c f σ π some l g m ch .chosen))
+  walk-grants c f σ π some l g m ch e = omega (arith, chosen-counts (omega arith) (walk-lands c f σ π some l g m ch .chosen) .within .low)
 
   -- and where the moves before it are those up to that hub, there are at most 4 × (L - 1)
   from-lands : (c : Class) (f : ℕ → Bool) (σ : Control) (π : Pointers) → any (p .nodes) f ≡ true → (l : Like σ π)
