@@ -1,11 +1,12 @@
 #!/usr/bin/env python3
-"""Holds the definitions of crates/rules against a second model of document 01 and slip 4 of document 02, on random lists of calls.
+"""Holds the definitions of crates/rules against a second model of document 01 and slips 4 and 13 of document 02, on random lists of calls.
 
     python3 tools/random_runs.py [SEED [RUNS [CALLS]]]        default 1 100 80
 
 The model below is written from their words alone, with hub-by-hub control. Each run is a random plan and a random list of calls, refused ones among them; its
 answers by the model are written as a theorem about the definitions (`answers p (control p) calls` is this list), which the checker computes; and so are those by
-the rule 2 that document 01 had before (`fromRoot`). It works in a temporary folder; it is no part of the gate.
+the rule 2 that document 01 had before (`fromRoot`), and the returns of the root's pointer in each call (`returnsOf`). Slip 13's bound is held against the model's
+own moves and returns. It works in a temporary folder; it is no part of the gate.
 """
 import collections
 import pathlib
@@ -62,6 +63,7 @@ class Hub:
         self.force, self.latest = {}, {}  # node: n and b
         self.granted = {}  # node: high grants in the frame
         self.holder, self.last = 1, None
+        self.returns = 0  # of the root's pointer to port 1, in the latest call
         self.pointer = {c: {g: (1, False) for g in plan.ports} for c in (NORMAL, HIGH)}
 
     def frame(self, t):
@@ -120,6 +122,7 @@ class Hub:
 
     def call(self, call):
         kind, t, *rest = call
+        self.returns = 0
         if t > 10**15 or t < self.clock:
             return ('refused', 11)
         if kind == 'step':
@@ -178,6 +181,7 @@ class Hub:
             found = [q for q, x in enumerate(self.plan.ports[hub], 1) if q >= at and self.shows(x, wanted)]
             if not found and hub == 1:
                 pointer[1] = (1, False)
+                self.returns += 1
             elif not found:
                 self.holder = self.plan.parent[hub]
                 pointer[self.holder] = (self.plan.place[hub] + 1, False)
@@ -194,11 +198,31 @@ class Hub:
 
 
 def random_run(rng, plan, count):
-    hub, run = Hub(plan), []
+    """Calls with their answers, and the returns in each. Half of the lists are loaded: so many requests stand that the line seldom rests."""
+    hub, run, returns, loaded = Hub(plan), [], [], rng.random() < .5
     for _ in range(count):
-        call = random_call(rng, hub)
+        call = loaded_call(rng, hub) if loaded and rng.random() < .8 else random_call(rng, hub)
         run.append((call, hub.call(call)))
-    return run
+        returns.append(hub.returns)
+    return run, returns
+
+
+def farthest(plan, run, returns):
+    """Slip 13 of every run of grants; how many end as far as they may, on a plan with lower hubs."""
+    met = 0
+    for i, (_, first) in enumerate(run):
+        if first[0] != 'grant':
+            continue
+        moves = w = 0
+        for (_, a), n in zip(run[i + 1:], returns[i + 1:]):
+            if a[0] == 'rest' or a[0] == 'grant' and a[3] != first[3]:
+                break
+            if a[0] == 'grant':
+                moves, w = moves + a[5], w + n
+                most = 2 * (plan.hubs - 1) * (w + 1)
+                assert moves <= most, (first, moves, w)
+                met += plan.hubs > 1 and moves == most
+    return met
 
 
 RESERVES = [(0, 0), (1, 4000), (1, 12000), (2, 512), (2, 4000), (3, 512), (5, 512), (65, 512), (0, 512), (1, 0), (29, 2000), (40, 1000)]
@@ -226,6 +250,12 @@ def random_call(rng, hub):
     if x < .95:
         return ('reserve', t if rng.random() < .4 else hub.clock, k, *rng.choice(RESERVES))
     return ('until', t)
+
+
+def loaded_call(rng, hub):
+    if rng.random() < .4:
+        return ('step', (hub.due() or hub.clock) + 1)
+    return (rng.choice(['normal', 'normal', 'high']), hub.clock, rng.randint(1, hub.plan.nodes), 512)
 
 
 def as_call(call):
@@ -273,12 +303,19 @@ use Rattle.rules.specs.Call.{Class, normal, high, Call, ask, off, reserve, unti
 use Rattle.rules.specs.Choice.{any, sum, first}
 use Rattle.rules.specs.Core.{advance, countsIn, counts, held, due, sought}
 use Rattle.rules.specs.Control.{control, fromRoot, below, lowest, walk, led, nearest, chooseBy, chooseFromRoot}
-use Rattle.rules.specs.Machine.{perform}
-use Rattle.rules.specs.Run.{made, answers}
+use Rattle.rules.specs.Machine.{Hub, perform}
+use Rattle.rules.specs.Run.{freshHub, made, answers}
+use Rattle.rules.specs.Control.{Control}
+use Rattle.rules.specs.Travel.{returnsIn, returnsBy, returnsOf}
+
+-- the returns in each call of a list, from a hub on
+unfoldable along : Plan → Hub Control → List Call → List ℕ
+along p h [] = []
+along p h (call ∷ more) = let o = perform p (control p) call h in returnsOf p h (o .answer) ∷ along p (o .hub) more
 '''
 
 
-def theorem(i, plan, run, by_root):
+def theorem(i, plan, run, returns, by_root):
     calls = as_list(as_call(call) for call, _ in run)
     expected = as_list(as_answer(answer) for _, answer in run)
     root = as_list(as_answer(answer) for answer in by_root)
@@ -296,6 +333,10 @@ right{i} : answers p{i} (control p{i}) calls{i} ≡ expected{i}
 {opened} expected{i} led nearest chooseBy
 right{i} = refl
 
+returned{i} : along p{i} (freshHub p{i} (control p{i})) calls{i} ≡ {as_list(str(n) for n in returns)}
+{opened} led nearest chooseBy returnsIn returnsBy along
+returned{i} = refl
+
 byRoot{i} : List Answer
 byRoot{i} = {root}
 
@@ -309,18 +350,19 @@ def main():
     seed, runs, n = ([int(x) for x in sys.argv[1:]] + [1, 100, 80][len(sys.argv) - 1:])[:3]
     rng = random.Random(seed)
     kinds = collections.Counter()
-    most = fewer = 0
+    most = fewer = returned = met = 0
     out = [HEAD]
     for i in range(runs):
         plan = random_plan(rng)
-        run = random_run(rng, plan, n)
+        run, returns = random_run(rng, plan, n)
+        returned, met = returned + sum(returns), met + farthest(plan, run, returns)
         for _, a in run:
             kinds[a[0] + (f' {a[1]}' if a[0] == 'refused' else f' {a[3]}' if a[0] == 'grant' else '')] += 1
             most = max(most, a[5] if a[0] == 'grant' else 0)
         root_hub = Hub(plan, nearest=False)
         by_root = [root_hub.call(call) for call, _ in run]
         fewer += sum(a != b for (_, a), b in zip(run, by_root))
-        out.append(theorem(i, plan, run, by_root))
+        out.append(theorem(i, plan, run, returns, by_root))
     root = pathlib.Path(__file__).resolve().parent.parent
     with tempfile.TemporaryDirectory() as d:
         d = pathlib.Path(d)
@@ -333,7 +375,9 @@ def main():
     if done.returncode:
         print(done.stdout[-3000:], done.stderr[-3000:])
         sys.exit(f'random_runs: the definitions and the model differ, or the check failed (seed {seed})')
-    print(f'{runs} runs of {n} calls agree; at most {most} moves, {fewer} steps with other moves than by the root;', dict(kinds.most_common()))
+    print(f'{runs} runs of {n} calls agree; at most {most} moves, {fewer} steps with other moves than by the root, {returned} returns, slip 13 met {met} times;',
+          dict(kinds.most_common()))
 
 
-main()
+if __name__ == '__main__':
+    main()

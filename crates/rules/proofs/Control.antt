@@ -1,4 +1,4 @@
--- Hub-by-hub control gives the flat hub's turns, within the move limit. Read in this order.
+-- Hub-by-hub control gives the flat hub's turns, within the move limit (to Runs); and how far it travels in a round (from Looks on). Read in this order.
 pub mod Intervals
 pub mod Cover
 pub mod Pointers

@@ -38,6 +38,8 @@ pub struct Control {
     latest: Option<Class>,
     /// By class, then by hub (hub h at h - 1).
     pointers: [Vec<Pointer>; 2],
+    /// "Returns of the root's pointer to port 1" so far (slip 13 of document 02).
+    returns: u64,
 }
 
 impl Control {
@@ -50,12 +52,17 @@ impl Control {
     pub fn turning(plan: &Plan, turning: Turning) -> Control {
         let pointers = vec![unmarked(1); plan.hubs.len()];
         let pointers = [pointers.clone(), pointers];
-        Control { plan: plan.clone(), turning, holder: ROOT, latest: None, pointers }
+        Control { plan: plan.clone(), turning, holder: ROOT, latest: None, pointers, returns: 0 }
     }
 
     /// From now on a change of class goes up as far as is said.
     pub fn turn(&mut self, turning: Turning) {
         self.turning = turning;
+    }
+
+    /// How often the root's pointer of either class has returned to port 1.
+    pub fn returns(&self) -> u64 {
+        self.returns
     }
 
     /// "A hub sees of each port only which classes count there or below it":
@@ -160,7 +167,10 @@ impl Turns for Control {
                         self.holder = above;
                         moves += 1;
                     }
-                    None => pointers[ROOT - 1] = unmarked(1),
+                    None => {
+                        pointers[ROOT - 1] = unmarked(1);
+                        self.returns += 1;
+                    }
                 },
             }
         }
