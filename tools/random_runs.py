@@ -5,7 +5,7 @@
 
 The model below is written from their words alone, with hub-by-hub control. Each run is a random plan and a random list of calls, refused ones among them; its
 answers by the model are written as a theorem about the definitions (`answers p (control p) calls` is this list), which the checker computes; and so are those by
-the rule 2 that document 01 had before (`fromRoot`), and the returns of the root's pointer in each call (`returnsOf`). Slip 13's bound is held against the model's
+the rule 2 that document 01 had before (`fromRoot`), and the returns of the root's pointer in each call (`callReturns`). Slip 13's bound is held against the model's
 own moves and returns. It works in a temporary folder; it is no part of the gate.
 """
 import collections
@@ -306,12 +306,12 @@ use Rattle.rules.specs.Control.{control, fromRoot, below, lowest, walk, led, ne
 use Rattle.rules.specs.Machine.{Hub, perform}
 use Rattle.rules.specs.Run.{freshHub, made, answers}
 use Rattle.rules.specs.Control.{Control}
-use Rattle.rules.specs.Travel.{returnsIn, returnsBy, returnsOf}
+use Rattle.rules.specs.Travel.{walkReturns, chooseReturns, callReturns}
 
 -- the returns in each call of a list, from a hub on
 unfoldable along : Plan → Hub Control → List Call → List ℕ
 along p h [] = []
-along p h (call ∷ more) = let o = perform p (control p) call h in returnsOf p h (o .answer) ∷ along p (o .hub) more
+along p h (call ∷ more) = let o = perform p (control p) call h in callReturns p h (o .answer) ∷ along p (o .hub) more
 '''
 
 
@@ -334,7 +334,7 @@ right{i} : answers p{i} (control p{i}) calls{i} ≡ expected{i}
 right{i} = refl
 
 returned{i} : along p{i} (freshHub p{i} (control p{i})) calls{i} ≡ {as_list(str(n) for n in returns)}
-{opened} led nearest chooseBy returnsIn returnsBy along
+{opened} led nearest chooseBy walkReturns chooseReturns along
 returned{i} = refl
 
 byRoot{i} : List Answer

@@ -16,7 +16,7 @@ use Rattle.rules.specs.Flat.{Pointers, flat}
 use Rattle.rules.specs.Control.{Control, chooseBy, control}
 use Rattle.rules.specs.Run.{Entry, made}
 use Rattle.rules.specs.Agree.{movesOf}
-use Rattle.rules.specs.Travel.{returnsOf, leftBy, returns, nodeBy, latestNode, roundBy, rounds, travel, grantsIn, goesOn, unbroken, farthest, RunOfGrants, Travels}
+use Rattle.rules.specs.Travel.{callReturns, leftBy, returns, nodeBy, latestNode, roundBy, rounds, travel, grantsIn, goesOn, unbroken, farthest, RunOfGrants, Travels}
 use Rattle.rules.proofs.Choices.{true-false, and-both}
 use Rattle.rules.proofs.Clash.{clash}
 use Rattle.rules.proofs.Agree.{sought-counts, turns-like}
@@ -52,9 +52,9 @@ module _ (p : Plan) (D : Drawn p) (c : Class) where
   -- a call on hub h, from passings v: the tour goes on, the call's moves are paid for, and its answer tells the returns
   pub record Paid (h : Hub Control) (k : ℕ) (v : ℕ → ℕ) (o : Outcome Control) : Type 0 where
     pub tour : Tour p D c (o .hub .turn)
-    pub cost : movesOf (o .answer) + total p v ≤ 2 * (p .hubs - 1) * returnsOf p h (o .answer) + total p (tour .passings)
+    pub cost : movesOf (o .answer) + total p v ≤ 2 * (p .hubs - 1) * callReturns p h (o .answer) + total p (tour .passings)
     pub behind : LeftBehind k o
-    pub told : returnsOf p h (o .answer) ≡ roundBy k (o .answer)
+    pub told : callReturns p h (o .answer) ≡ roundBy k (o .answer)
 
   module _ (h : Hub Control) (π : Pointers) (like : Like p D (h .turn) π) where
     first-behind : {call : Call} {o : Outcome Control} → Course p (control p) h call o → grantsIn c (o .answer) ≡ true → (k : ℕ) → LeftBehind k o

@@ -8,13 +8,13 @@ use Rattle.rules.specs.Core.{advance, countsIn, counts, held, due, sough
 use Rattle.rules.specs.Control.{below, lowest, walk, led, nearest, chooseBy}
 use Rattle.rules.specs.Machine.{perform}
 use Rattle.rules.specs.Run.{Entry, made}
-use Rattle.rules.specs.Travel.{returnsIn, returnsBy, returns, latestNode, rounds, travel, unbroken, RunOfGrants}
+use Rattle.rules.specs.Travel.{walkReturns, chooseReturns, returns, latestNode, rounds, travel, unbroken, RunOfGrants}
 use Rattle.rules.specs.TravelRuns.{Worked, whole, upTo, since, starts, figures, worked-runs, AllRight}
 use Rattle.rules.proofs.Choices.{true-false, and-both}
 
 pub worked-right : AllRight worked-runs
 unfolding figures any sum first advance countsIn counts held due sought below lowest walk led nearest chooseBy perform made
-    returnsIn returnsBy returns latestNode rounds travel unbroken
+    walkReturns chooseReturns returns latestNode rounds travel unbroken
 worked-right = refl
 
 -- a list that the table calls a run is one of those that `Travels` speaks of

@@ -11,7 +11,7 @@ use Rattle.rules.specs.Call.{Class, same}
 use Rattle.rules.specs.Machine.{Turn}
 use Rattle.rules.specs.Flat.{Pointers}
 use Rattle.rules.specs.Control.{Control, Pointer, most-looks, walk, chooseBy}
-use Rattle.rules.specs.Travel.{returnsIn, returnsBy}
+use Rattle.rules.specs.Travel.{walkReturns, chooseReturns}
 use Rattle.rules.proofs.Choices.{true-false}
 use Rattle.rules.proofs.Turns.{chosen-counts}
 use Rattle.rules.proofs.Control.Pointers.{Good, stands, inside, chain-within, good-from-root}
@@ -48,18 +48,18 @@ module _ (p : Plan) (D : Drawn p) (c : Class) where
     unfolding chooseBy
     same-turn = rw same-class
 
-    same-returns : returnsBy p c f σ ≡ returnsIn p c f most-looks σ
-    unfolding returnsBy
+    same-returns : chooseReturns p c f σ ≡ walkReturns p c f most-looks σ
+    unfolding chooseReturns
     same-returns = rw same-class
 
   -- it keeps to the round
-  pub chosen-tours : (f : ℕ → Bool) (σ : Control) (s : Tour p D c σ) → Toured p D c (s .passings) 0 (returnsBy p c f σ) (chooseBy p c f σ)
+  pub chosen-tours : (f : ℕ → Bool) (σ : Control) (s : Tour p D c σ) → Toured p D c (s .passings) 0 (chooseReturns p c f σ) (chooseBy p c f σ)
   unfolding TourAt
   chosen-tours f σ s = rw (same-turn f σ (s .latest), same-returns f σ (s .latest)) (tours p D c f most-looks σ 0 s)
 
   -- and its node tells the returns
   pub chosen-tells : (f : ℕ → Bool) (σ : Control) (π : Pointers) → any (p .nodes) f ≡ true → Like p D σ π → (k : ℕ) → Behind σ k
-      → returnsBy p c f σ ≡ (if leb (chooseBy p c f σ .node) k then 1 else 0)
+      → chooseReturns p c f σ ≡ (if leb (chooseBy p c f σ .node) k then 1 else 0)
   unfolding ToldAt
   chosen-tells f σ π some l k b =
       let e = same-turn f σ (b .latest) in

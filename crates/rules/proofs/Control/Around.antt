@@ -12,7 +12,7 @@ use Rattle.rules.specs.Call.{Class}
 use Rattle.rules.specs.Machine.{Turn}
 use Rattle.rules.specs.Drawn.{Drawn}
 use Rattle.rules.specs.Control.{Control, atPort, point, up, walk}
-use Rattle.rules.specs.Travel.{returnsIn}
+use Rattle.rules.specs.Travel.{walkReturns}
 use Rattle.rules.proofs.Choices.{Which, which, yes′, no′, true-false, any-some}
 use Rattle.rules.proofs.Control.Intervals.{Counts, Clear, counts-clear, clear-join}
 use Rattle.rules.proofs.Control.Cover.{rises}
@@ -24,10 +24,10 @@ module _ (p : Plan) (D : Drawn p) (c : Class) (f : ℕ → Bool) where
   unfoldable StraightAt : ℕ → Type 0
   StraightAt n =
       (σ : Control) (q : ℕ) → Unmarked p c σ q → Counts f (D .above (σ .holder) q) (D .above (σ .holder) (p .ports (σ .holder) + 1))
-      → returnsIn p c f n σ ≡ 0
+      → walkReturns p c f n σ ≡ 0
 
   straight : (n : ℕ) → StraightAt n
-  unfolding StraightAt returnsIn
+  unfolding StraightAt walkReturns
   straight zero σ q s t = refl
   straight (suc n) σ q s t = go (straight n) (looked p D c f n σ 0 q s)
     where
@@ -59,12 +59,12 @@ module _ (p : Plan) (D : Drawn p) (c : Class) (f : ℕ → Bool) where
     unfoldable pub ToldAt : ℕ → Type 0
     ToldAt n =
         (σ : Control) (m q : ℕ) → Unmarked p c σ q → (walk p c f n σ m .node ≡ 0 → ⊥)
-        → Told (D .above (σ .holder) q) (returnsIn p c f n σ) (walk p c f n σ m .node)
+        → Told (D .above (σ .holder) q) (walkReturns p c f n σ) (walk p c f n σ m .node)
 
     -- the root goes round: something counts from its port 1 on
     round-told : (n : ℕ) (σ : Control) (q k : ℕ) → Unmarked p c σ q → σ .holder ≡ 1
         → Clear f (D .above (σ .holder) q) (D .above (σ .holder) (p .ports (σ .holder) + 1))
-        → Told (D .above (σ .holder) q) (returnsIn p c f n (point c 1 (atPort 1) σ) + 1) k
+        → Told (D .above (σ .holder) q) (walkReturns p c f n (point c 1 (atPort 1) σ) + 1) k
     unfolding StraightAt
     round-told n σ q k s i cl =
         let a = any-some (p .nodes) f some in
@@ -76,7 +76,7 @@ module _ (p : Plan) (D : Drawn p) (c : Class) (f : ℕ → Bool) where
         around (omega arith) (rw last at cl)
 
     pub tells : (n : ℕ) → ToldAt n
-    unfolding ToldAt walk returnsIn
+    unfolding ToldAt walk walkReturns
     tells zero σ m q s z = absurd (z refl)
     tells (suc n) σ m q s z = go (tells n) (looked p D c f n σ m q s) z
       where

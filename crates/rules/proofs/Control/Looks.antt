@@ -12,7 +12,7 @@ use Rattle.rules.specs.Call.{Class}
 use Rattle.rules.specs.Machine.{Turn}
 use Rattle.rules.specs.Drawn.{Drawn, Within, Covers}
 use Rattle.rules.specs.Control.{Pointer, Control, atPort, marking, lowest, point, granted, up, walk}
-use Rattle.rules.specs.Travel.{returnsIn}
+use Rattle.rules.specs.Travel.{walkReturns}
 use Rattle.rules.proofs.Choices.{Which, which, yes′, no′, put-same}
 use Rattle.rules.proofs.Control.Intervals.{Counts, Clear}
 use Rattle.rules.proofs.Control.Cover.{Holds, holds, hangs, Look, nothing, something, look}
@@ -23,21 +23,21 @@ module _ (p : Plan) (c : Class) (f : ℕ → Bool) (n : ℕ) (σ : Control) wher
   abbrev Lowest : ℕ → Type 0
   Lowest q = lowest p f (σ .holder) (σ .pointer c (σ .holder) .port) ≡ q
 
-  returns-node : (q k : ℕ) → Lowest q → 1 ≤ q → p .port (σ .holder) q ≡ node k → returnsIn p c f (suc n) σ ≡ 0
-  unfolding returnsIn
+  returns-node : (q k : ℕ) → Lowest q → 1 ≤ q → p .port (σ .holder) q ≡ node k → walkReturns p c f (suc n) σ ≡ 0
+  unfolding walkReturns
   returns-node q k e l i = rw (e, ne-eqb q 0 (λ z. omega arith), i)
 
   returns-afresh : (q h : ℕ) → Lowest q → 1 ≤ q → p .port (σ .holder) q ≡ hub h → own c q σ ≡ false
-      → returnsIn p c f (suc n) σ ≡ returnsIn p c f n (entered c q h σ)
-  unfolding returnsIn
+      → walkReturns p c f (suc n) σ ≡ walkReturns p c f n (entered c q h σ)
+  unfolding walkReturns
   returns-afresh q h e l i o = rw (e, ne-eqb q 0 (λ z. omega arith), i, o)
 
-  returns-round : Lowest 0 → σ .holder ≡ 1 → returnsIn p c f (suc n) σ ≡ returnsIn p c f n (point c 1 (atPort 1) σ) + 1
-  unfolding returnsIn
+  returns-round : Lowest 0 → σ .holder ≡ 1 → walkReturns p c f (suc n) σ ≡ walkReturns p c f n (point c 1 (atPort 1) σ) + 1
+  unfolding walkReturns
   returns-round e r = rw (e, eq-eqb (σ .holder) 1 r) (omega arith)
 
-  returns-up : Lowest 0 → (σ .holder ≡ 1 → ⊥) → returnsIn p c f (suc n) σ ≡ returnsIn p c f n (up p c σ)
-  unfolding returnsIn
+  returns-up : Lowest 0 → (σ .holder ≡ 1 → ⊥) → walkReturns p c f (suc n) σ ≡ walkReturns p c f n (up p c σ)
+  unfolding walkReturns
   returns-up e r = rw (e, ne-eqb (σ .holder) 1 r) (omega arith)
 
 -- the holder's pointer of class c is at port q, without mark
@@ -101,14 +101,14 @@ module _ (p : Plan) (D : Drawn p) (c : Class) (f : ℕ → Bool) (n : ℕ) (σ :
     grants : (r k : ℕ) → Within (p .ports g) r → q ≤ r → k ≡ D .above g r + 1 → D .above g (r + 1) ≡ k
         → Looked (record { node = k; state = granted c (point c g (atPort (r + 1)) σ); moves = m }) 0
     enters : (r h : ℕ) → Within (p .ports g) r → q ≤ r → Holds p D g r h → Clear f (D .above g q) (D .above g r)
-        → Counts f (D .above g r) (D .above g (r + 1)) → Looked (walk p c f n (entered c r h σ) (m + 1)) (returnsIn p c f n (entered c r h σ))
-    hands-up : (g ≡ 1 → ⊥) → Clear f (D .above g q) (D .above g (p .ports g + 1)) → Looked (walk p c f n (up p c σ) (m + 1)) (returnsIn p c f n (up p c σ))
+        → Counts f (D .above g r) (D .above g (r + 1)) → Looked (walk p c f n (entered c r h σ) (m + 1)) (walkReturns p c f n (entered c r h σ))
+    hands-up : (g ≡ 1 → ⊥) → Clear f (D .above g q) (D .above g (p .ports g + 1)) → Looked (walk p c f n (up p c σ) (m + 1)) (walkReturns p c f n (up p c σ))
     goes-round : g ≡ 1 → Clear f (D .above g q) (D .above g (p .ports g + 1))
-        → Looked (walk p c f n (point c 1 (atPort 1) σ) m) (returnsIn p c f n (point c 1 (atPort 1) σ) + 1)
+        → Looked (walk p c f n (point c 1 (atPort 1) σ) m) (walkReturns p c f n (point c 1 (atPort 1) σ) + 1)
 
   module _ (s : Unmarked p c σ q) where
     abbrev Next : Type 0
-    Next = Looked (walk p c f (suc n) σ m) (returnsIn p c f (suc n) σ)
+    Next = Looked (walk p c f (suc n) σ m) (walkReturns p c f (suc n) σ)
 
     abbrev Finds : ℕ → Type 0
     Finds r = lowest p f g (σ .pointer c g .port) ≡ r

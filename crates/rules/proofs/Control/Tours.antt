@@ -8,7 +8,7 @@ use Rattle.rules.specs.Call.{Class}
 use Rattle.rules.specs.Machine.{Turn}
 use Rattle.rules.specs.Drawn.{Drawn}
 use Rattle.rules.specs.Control.{Control, atPort, point, up, walk}
-use Rattle.rules.specs.Travel.{returnsIn}
+use Rattle.rules.specs.Travel.{walkReturns}
 use Rattle.rules.proofs.Control.Cover.{rises}
 use Rattle.rules.proofs.Control.Steps.{entered}
 use Rattle.rules.proofs.Control.Looks.{unmarked-round, Looked, grants, enters, hands-up, goes-round, looked}
@@ -32,10 +32,10 @@ module _ (p : Plan) (D : Drawn p) (c : Class) where
 
   module _ (f : ℕ → Bool) where
     unfoldable pub TourAt : ℕ → Type 0
-    TourAt n = (σ : Control) (m : ℕ) (s : Tour p D c σ) → Toured (s .passings) m (returnsIn p c f n σ) (walk p c f n σ m)
+    TourAt n = (σ : Control) (m : ℕ) (s : Tour p D c σ) → Toured (s .passings) m (walkReturns p c f n σ) (walk p c f n σ m)
 
     pub tours : (n : ℕ) → TourAt n
-    unfolding TourAt walk returnsIn
+    unfolding TourAt walk walkReturns
     tours zero σ m s = record { tour = s; cost = omega (arith, mul-zero (2 * (p .hubs - 1))) }
     tours (suc n) σ m s = go (tours n) (looked p D c f n σ m (s .port) (s .looks))
       where
