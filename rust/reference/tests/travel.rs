@@ -1,56 +1,81 @@
-//! Slip 13 of document 02, "A round's travel", on random lists of calls: every
-//! run of grants of one class keeps its bound, some meet it exactly, and the
-//! nodes granted tell the returns of the root's pointer.
+//! Slip 13 of document 02, "A round's travel": every run of grants of one class
+//! keeps its bound, some meet it exactly, and the nodes granted tell the returns
+//! of the root's pointer. On random lists of calls, and on the vectors' logs.
 
 mod common;
 
-use common::control;
-use reference::core::Class;
+use common::{control, texts_now};
 use reference::hub::Answer;
 use reference::plan::Plan;
 use reference::random::calls::{Caller, Style};
 use reference::random::{plans, Random};
 use std::collections::BTreeMap;
 
-/// A run of grants, from its first one on.
+/// A run of grants: moves and returns in the steps behind its first grant.
 struct Run {
-    /// Moves and returns in the steps behind the first grant.
     moves: u64,
     returns: u64,
-    /// Grants there to a node that isn't behind the one granted before.
-    rounds: u64,
 }
 
-/// What the lists met.
+/// What the runs met.
 #[derive(Default, Debug)]
 struct Met {
     runs: u64,
-    longest: u64,
-    most_hubs: usize,
+    longest: usize,
+    most_hubs: u64,
     /// Runs that travel as far as they may, by returns, on plans with lower hubs.
     met: BTreeMap<u64, u64>,
 }
 
-impl Met {
-    fn check(&mut self, hubs: usize, run: &Run, at: &str) {
-        let bound = 2 * (hubs as u64 - 1) * (run.returns + 1);
-        assert!(run.moves <= bound, "{} moves, {} returns, {at}", run.moves, run.returns);
-        assert_eq!(run.rounds, run.returns, "{at}");
-        self.runs += 1;
-        if hubs > 1 && run.moves == bound {
-            *self.met.entry(run.returns).or_default() += 1;
+/// The runs that are going on: each grant is the first of one.
+struct Runs<'a> {
+    hubs: u64,
+    runs: Vec<Run>,
+    /// Class and node of the latest grant, none behind a rest.
+    latest: Option<(u64, u64)>,
+    met: &'a mut Met,
+}
+
+impl Runs<'_> {
+    fn new(hubs: u64, met: &mut Met) -> Runs<'_> {
+        met.most_hubs = met.most_hubs.max(hubs);
+        Runs { hubs, runs: Vec::new(), latest: None, met }
+    }
+
+    fn broken(&mut self) {
+        self.runs.clear();
+        self.latest = None;
+    }
+
+    /// A grant, with its returns where they are known.
+    fn grant(&mut self, class: u64, node: u64, moves: u64, returned: Option<u64>, at: &str) {
+        match self.latest {
+            Some((of, earlier)) if of == class => {
+                let round = u64::from(node <= earlier);
+                assert_eq!(returned.unwrap_or(round), round, "{at}");
+                for run in &mut self.runs {
+                    run.moves += moves;
+                    run.returns += round;
+                    let bound = 2 * (self.hubs - 1) * (run.returns + 1);
+                    assert!(run.moves <= bound, "{} moves, {} returns, {at}", run.moves, run.returns);
+                    self.met.runs += 1;
+                    if self.hubs > 1 && run.moves == bound {
+                        *self.met.met.entry(run.returns).or_default() += 1;
+                    }
+                }
+            }
+            _ => self.broken(),
         }
+        self.runs.push(Run { moves: 0, returns: 0 });
+        self.met.longest = self.met.longest.max(self.runs.len());
+        self.latest = Some((class, node));
     }
 }
 
-/// Each grant of a list is the first of a run, which ends at a rest or a grant
-/// of the other class; it is looked at after each of its grants.
 fn travel(seed: u64, plan: &Plan, style: Style, calls: u64, met: &mut Met) {
     let mut caller = Caller::new(plan, seed, style);
     let mut hub = control(plan);
-    let mut runs: Vec<Run> = Vec::new();
-    let mut latest: Option<(Class, u64)> = None;
-    met.most_hubs = met.most_hubs.max(plan.hubs.len());
+    let mut runs = Runs::new(plan.hubs.len() as u64, met);
     for place in 0..calls {
         let call = caller.next_call();
         let before = hub.turns().returns();
@@ -59,27 +84,10 @@ fn travel(seed: u64, plan: &Plan, style: Style, calls: u64, met: &mut Met) {
         caller.hear(call, answer);
         match answer {
             Answer::Grant { node, class, moves, .. } => {
-                match latest {
-                    Some((of, earlier)) if of == class => {
-                        let round = u64::from(node <= earlier);
-                        let at = format!("seed {seed}, call {place}: {call:?}");
-                        for run in &mut runs {
-                            run.moves += moves;
-                            run.returns += returned;
-                            run.rounds += round;
-                            met.check(plan.hubs.len(), run, &at);
-                        }
-                    }
-                    _ => runs.clear(),
-                }
-                runs.push(Run { moves: 0, returns: 0, rounds: 0 });
-                met.longest = met.longest.max(runs.len() as u64);
-                latest = Some((class, node));
+                let at = format!("seed {seed}, call {place}: {call:?}");
+                runs.grant(class as u64, node, moves, Some(returned), &at);
             }
-            Answer::Rest { .. } => {
-                runs.clear();
-                latest = None;
-            }
+            Answer::Rest { .. } => runs.broken(),
             _ => assert_eq!(returned, 0),
         }
     }
@@ -100,8 +108,34 @@ fn lists(seeds: std::ops::Range<u64>, calls: u64) -> Met {
 #[test]
 fn runs_keep_their_bound_and_meet_it() {
     let met = lists(0..5_000, 400);
-    assert!(met.runs > 100_000 && met.longest >= 20 && met.most_hubs == 32, "{met:?}");
-    assert!((0..3).all(|returns| met.met.get(&returns).is_some_and(|&runs| runs > 100)), "{met:?}");
+    assert!(met.runs > 1_000_000 && met.longest > 100 && met.most_hubs == 32, "{met:?}");
+    assert!((0..4).all(|returns| met.met.get(&returns).is_some_and(|&runs| runs > 100)), "{met:?}");
+}
+
+/// The numbers of a line of the log that begins with this word.
+fn numbers(line: &str, word: &str) -> Option<Vec<u64>> {
+    let inside = line.strip_prefix(word)?.strip_suffix(')')?;
+    Some(inside.split(' ').filter_map(|number| number.parse().ok()).collect())
+}
+
+/// The logs of another model: what they tell is enough to hold them against it.
+#[test]
+fn the_vectors_keep_the_bound() {
+    let mut met = Met::default();
+    for text in texts_now() {
+        let log = std::fs::read_to_string(text.with_extension("log")).unwrap();
+        let Some(plan) = numbers(log.lines().next().unwrap(), "(nodes ") else { continue };
+        let mut runs = Runs::new(plan[1], &mut met);
+        for line in log.lines() {
+            if let Some(grant) = numbers(line, "(grant ") {
+                runs.grant(grant[2], grant[1], grant[4], None, &format!("{text:?}: {line}"));
+            } else if line.starts_with("(rest ") {
+                runs.broken();
+            }
+        }
+    }
+    println!("{met:?}");
+    assert!(met.runs > 10_000 && met.longest > 20 && met.most_hubs == 32, "{met:?}");
 }
 
 /// `cargo test --release -- --ignored`, with LISTS to say how many.

@@ -7,6 +7,7 @@ use reference::fast::Fast;
 use reference::flat::Flat;
 use reference::hub::{Answer, Calls, Hub};
 use reference::plan::{read, Plan};
+use std::path::{Path, PathBuf};
 
 /// Document 01's plan of the log and of most trial cases.
 pub const PLAN: &str =
@@ -32,4 +33,34 @@ pub fn hubs(plan: &Plan) -> [Box<dyn Calls>; 3] {
 pub fn grant(time: u64, node: u64, class: u64, end: u64, moves: u64) -> Answer {
     let class = if class == 1 { Class::Normal } else { Class::High };
     Answer::Grant { time, node, class, end, moves }
+}
+
+/// The texts with the logs that an independent model gives. They lie in
+/// `shared/vectors` beside some directory above the package, or where the
+/// environment variable `VECTORS` says.
+pub fn vectors() -> PathBuf {
+    if let Some(path) = std::env::var_os("VECTORS") {
+        return path.into();
+    }
+    Path::new(env!("CARGO_MANIFEST_DIR"))
+        .ancestors()
+        .map(|above| above.join("shared/vectors"))
+        .find(|path| path.is_dir())
+        .expect("shared/vectors above the package, or VECTORS set")
+}
+
+/// The texts of a folder.
+pub fn texts(folder: &Path) -> Vec<PathBuf> {
+    let entries = std::fs::read_dir(folder).unwrap().map(|entry| entry.unwrap().path());
+    entries.filter(|path| path.extension().is_some_and(|extension| extension == "text")).collect()
+}
+
+/// The texts as they count now: those of `after-4` stand in place of the ones of
+/// the same name.
+pub fn texts_now() -> Vec<PathBuf> {
+    let after = vectors().join("after-4");
+    let mut all = texts(&vectors());
+    all.retain(|path| !after.join(path.file_name().unwrap()).exists());
+    all.extend(texts(&after));
+    all
 }
