@@ -20,7 +20,7 @@ pub data OnLine (p : Plan) : ℕ → ℕ → Type 0 where
   here : {g : ℕ} → OnLine p g g
   above : {g k : ℕ} → 2 ≤ g → g ≤ p .hubs → OnLine p (p .parent g) k → OnLine p g k
 
--- hubs above stand before it
+-- hubs above have no greater number
 line-up : (p : Plan) → Drawn p → {g k : ℕ} → OnLine p g k → k ≤ g
 line-up p D here = omega arith
 line-up p D (above {g} l u o) = omega (arith, line-up p D o, hangs p D g l u .hung .below)
@@ -40,13 +40,13 @@ sum-twice (suc n) v z h =
     omega arith
 
 module _ (p : Plan) where
-  -- of all hubs
+  -- of all hubs together
   abbrev pub total : (ℕ → ℕ) → ℕ
   total v = sum (p .hubs) v
 
 module _ (p : Plan) (D : Drawn p) (c : Class) where
-  -- The holder looks from a port without mark. `passings` has, for each hub, how often control has passed between it and its parent since the round began: a
-  -- hub on the holder's line hasn't been left, and a hub off it with nodes ahead hasn't been entered
+  -- The holder looks from a port without mark. `passings` has, for each hub, at least how often control has passed between it and its parent since the round, or
+  -- the run, began: a hub on the holder's line hasn't been left, and a hub off it with nodes ahead hasn't been entered
   pub record Tour (σ : Control) : Type 0 where
     pub latest : σ .latest ≡ c
     pub port : ℕ
