@@ -17,13 +17,23 @@ unfolding figures any sum first advance countsIn counts held due sought below lo
     walkReturns chooseReturns returns latestNode rounds travel unbroken
 worked-right = refl
 
--- a list that the table calls a run is one of those that `Travels` speaks of
-pub is-run : (x : Worked) → figures x .is-run ≡ true → RunOfGrants (x .class) (whole x)
+-- the run that `Travels` speaks of, where the table calls a list one: its calls behind the first grant, and those up to it, are the table's
+pub record ItsRun (x : Worked) : Type 0 where
+  pub run : RunOfGrants (x .class) (whole x)
+  pub its-since : run .since ≡ since x
+  pub its-first : run .first ∷ run .before ≡ upTo x
+
+pub is-run : (x : Worked) → figures x .is-run ≡ true → ItsRun x
 unfolding figures
 is-run x e =
     let (a, b) = and-both (starts x (upTo x)) (unbroken (x .class) (since x)) e in
-    go (upTo x) (take-append-drop (x .behind) (whole x)) a b
+    go (upTo x) refl (take-append-drop (x .behind) (whole x)) a b
   where
-    go : (l : List Entry) → since x ++ l ≡ whole x → starts x l ≡ true → unbroken (x .class) (since x) ≡ true → RunOfGrants (x .class) (whole x)
-    go [] p a b = absurd (true-false a refl)
-    go (first ∷ before) p a b = record { before = before; first = first; since = since x; later = []; place = sym p; starts = a; goes-on = b }
+    go : (l : List Entry) → l ≡ upTo x → since x ++ l ≡ whole x → starts x l ≡ true → unbroken (x .class) (since x) ≡ true → ItsRun x
+    go [] i p a b = absurd (true-false a refl)
+    go (first ∷ before) i p a b =
+        record {
+          run = record { before = before; first = first; since = since x; later = []; place = sym p; starts = a; goes-on = b };
+          its-since = refl;
+          its-first = i;
+        }

@@ -38,7 +38,7 @@ pub struct Control {
     latest: Option<Class>,
     /// By class, then by hub (hub h at h - 1).
     pointers: [Vec<Pointer>; 2],
-    /// "Returns of the root's pointer to port 1" so far (slip 13 of document 02).
+    /// The "returns of the root's pointer to port 1" so far (slip 13).
     returns: u64,
 }
 
