@@ -11,6 +11,7 @@ use Rattle.rules.specs.Control.{Control, control}
 use Rattle.rules.specs.Run.{Entry, made}
 use Rattle.rules.specs.Agree.{plain, movesOf, Every}
 use Rattle.rules.specs.Demand.{Holds3}
+use Rattle.rules.specs.AnyMoment.{AnyMoment}
 use Rattle.rules.specs.Saving.{SavesOn}
 use Rattle.rules.specs.Travel.{Travels}
 use Rattle.rules.specs.Promises.{NoTimeLost, Admits}
@@ -75,6 +76,7 @@ module _ (P : List ℕ) (R : Ready P) (past : List Entry) (m : Made P past (made
         few-moves = subst (Every (λ a. movesOf a ≤ 4 * (levels p - 1))) (sym same) (kept .few-moves);
         travels = subst (Travels p) (sym same) (kept .travels);
         demand-3 = subst (Holds3 p) (sym same) (kept .demand-3);
+        any-moment = subst (AnyMoment p) (sym same) (kept .any-moment);
         hub = tied .hub;
         answers = λ call. agrees call .answer;
         leaves = leaves;

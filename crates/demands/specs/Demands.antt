@@ -24,6 +24,7 @@ use Rattle.rules.specs.Agree.{plain, movesOf, Every}
 use Rattle.rules.specs.Saving.{SavesOn}
 use Rattle.rules.specs.Travel.{Travels}
 use Rattle.rules.specs.Demand.{Holds3}
+use Rattle.rules.specs.AnyMoment.{AnyMoment}
 use Rattle.rules.specs.Promises.{NoTimeLost, Admits, Acceptable}
 use Rattle.state.specs.declared.Step.{Step}
 use Rattle.state.specs.Layout.{timeAt, clock-cell}
@@ -64,6 +65,9 @@ module _ (P : List ℕ) (p : Plan) (past : List Entry) (s : List ℕ) where
     pub travels : Travels p past
     -- Demand 3, one claim over the whole list
     pub demand-3 : Holds3 p past
+    -- Request 5 of document 02: a high request of a node with packets left in its frame, put up at any t and kept standing, is granted by t + D + the sum of c of the
+    -- other nodes that have a reservation, where no change comes into force before
+    pub any-moment : AnyMoment p past
     -- the cells are the hub that the calls left, and each further call answers as the rules do on that hub
     pub hub : hubOf p s ≡ made p (control p) (callsOf past) .hub
     pub answers : (call : Call) → answerTo call ≡ perform p (control p) call (hubOf p s) .answer

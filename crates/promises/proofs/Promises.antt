@@ -12,6 +12,7 @@ use Rattle.rules.proofs.Control.Runs.{control-turns-agree, control-moves}
 use Rattle.rules.proofs.Saving.{control-saves}
 use Rattle.rules.proofs.Travel.{control-travels}
 use Rattle.rules.proofs.ControlDemand3.{control-demand3}
+use Rattle.rules.proofs.AnyMoment.{control-any-moment}
 use Rattle.rules.proofs.NoTimeLost.{no-time-lost}
 use Rattle.rules.proofs.Stable.{clock-grows}
 use Rattle.rules.proofs.Unchanged.{refusal-changes-nothing, quiet-changes-nothing}
@@ -37,6 +38,7 @@ module _ (p : Plan) (drawn : Drawn p) (calls : List Call) where
         saves = control-saves p drawn calls;
         travels = control-travels p drawn calls;
         demand-3 = control-demand3 p drawn calls;
+        any-moment = control-any-moment p drawn calls;
         no-time-lost = no-time-lost p (drawn .figures) (control p) (control-follows p drawn) (drawn .some-node) calls;
         clock-grows = one-more;
         refusal-changes-nothing = λ call. refusal-changes-nothing p (control p) call (cascade p calls .hub);

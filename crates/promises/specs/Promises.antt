@@ -12,6 +12,7 @@ use Rattle.rules.specs.Agree.{plain, movesOf, Every}
 use Rattle.rules.specs.Saving.{SavesOn}
 use Rattle.rules.specs.Travel.{Travels}
 use Rattle.rules.specs.Demand.{Holds3}
+use Rattle.rules.specs.AnyMoment.{AnyMoment}
 use Rattle.rules.specs.Promises.{NoTimeLost, Admits, Acceptable}
 
 module _ (p : Plan) (calls : List Call) where
@@ -38,6 +39,9 @@ module _ (p : Plan) (calls : List Call) where
     pub travels : Travels p (cascade .past)
     -- Demand 3
     pub demand-3 : Holds3 p (cascade .past)
+    -- Request 5 of document 02: a high request of a node with packets left in its frame, put up at any t and kept standing, is granted by t + D + the sum of c of the
+    -- other nodes that have a reservation, where no change comes into force before
+    pub any-moment : AnyMoment p (cascade .past)
     -- No time is lost, and the clock never goes back
     pub no-time-lost : NoTimeLost p (control p) (cascade .hub)
     pub clock-grows : (call : Call) → cascade .hub .core .clock ≤ left call .core .clock

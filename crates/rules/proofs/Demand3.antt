@@ -1,6 +1,6 @@
 -- Demand 3 over every list of calls, for every turn machine that follows the flat rule.
 use Prim.Native.Nat.{ℕ, _+_, _*_, _≤_}
-use mathlib.Core.Path.{_≡_, refl, sym, ap, _∙_, subst}
+use mathlib.Core.Path.{_≡_, sym, ap, _∙_, subst}
 use mathlib.Core.Bool.{true}
 use mathlib.Core.List.{List, [], _∷_, _++_, append-assoc, append-cancel-right}
 use mathlib.Core.Logic.{_⊎_, ⊎-elim}
@@ -8,34 +8,21 @@ use native.Mathlib.Omega.{arith}
 use Rattle.rules.specs.Plan.{Plan}
 use Rattle.rules.specs.Drawn.{Within, Figures}
 use Rattle.rules.specs.Call.{Call}
-use Rattle.rules.specs.Core.{Share, frameOf, due, before}
+use Rattle.rules.specs.Core.{Share, frameOf}
 use Rattle.rules.specs.Machine.{Machine, perform}
 use Rattle.rules.specs.Run.{Entry, made}
 use Rattle.rules.specs.Words.{clockAt, reserved, High, highGrants, turnIn}
-use Rattle.rules.specs.Demand.{Unbroken, NextTurns, Ended, by-clock, by-quiet, Demand3, Holds3}
+use Rattle.rules.specs.Demand.{Unbroken, NextTurns, RunTo, Demand3, Holds3}
 use Rattle.rules.proofs.Follows.{Follows}
 use Rattle.rules.proofs.AlwaysSound.{sound}
 use Rattle.rules.proofs.AlwaysTold.{told}
 use Rattle.rules.proofs.Stable.{clock-grows, reserved-stays-on}
-use Rattle.rules.proofs.Places.{place}
-use Rattle.rules.proofs.Standing.{not-behind}
+use Rattle.rules.proofs.Places.{place, entries, entries-of}
 use Rattle.rules.proofs.Stage.{Facts, NextHigh, Stage}
 use Rattle.rules.proofs.Opening.{opened}
-use Rattle.rules.proofs.Quiet.{quiet-end}
+use Rattle.rules.proofs.Quiet.{not-run-to}
 use Rattle.rules.proofs.Keep.{Finished, Unfinished, keep, finished-or-not}
 use Rattle.rules.proofs.Started.{at-start}
-
-module _ (p : Plan) (M : Machine) where
-  -- the entries that the calls `newer` add to those of `earlier`
-  entries : List Call → List Call → List Entry
-  entries [] earlier = []
-  entries (call ∷ newer) earlier =
-      record { call = call; answer = perform p M call (made p M (newer ++ earlier) .hub) .answer } ∷ entries newer earlier
-
-  entries-of : (newer earlier : List Call) → made p M (newer ++ earlier) .past ≡ entries newer earlier ++ made p M earlier .past
-  unfolding made entries
-  entries-of [] earlier = refl
-  entries-of (call ∷ newer) earlier = rw (entries-of newer earlier)
 
 module _ (p : Plan) (fig : Figures p) (M : Machine) (follows : Follows p M) (calls : List Call) (k f : ℕ) (w : Within (p .nodes) k) where
   -- the whole list, and what is reserved in f by it
@@ -115,16 +102,10 @@ module _ (p : Plan) (fig : Figures p) (M : Machine) (follows : Follows p M) (cal
         (finished-or-not p fig M follows k f w share (made p M (newer ++ earlier) .past) (made p M (newer ++ earlier) .hub) (facts [] newer e)
         (run newer [] e (begin newer e)))
 
-  over : Unfinished p f (made p M calls .hub .core) → Ended p k f whole → ⊥
-  over left (by-clock late) = omega (arith, left .clock, told p fig M follows some calls .clock)
-  over left (by-quiet e past q h) =
-      let quiet = quiet-end p M ((f + 1) * p .frame) calls e past q h in
-      omega (arith, quiet .far, not-behind p (made p M calls .hub .core) ((f + 1) * p .frame) (quiet .time) (left .due) (quiet .nothing-due))
-
-  demand : Unbroken p k f whole → NextTurns p k f whole (share k .packets) → Ended p k f whole → Demand3 p k f whole
+  demand : Unbroken p k f whole → NextTurns p k f whole (share k .packets) → RunTo ((f + 1) * p .frame) whole → Demand3 p k f whole
   demand unbroken turns ended =
       let at = place p M calls (unbroken .since) (unbroken .before) (unbroken .place) in
-      ⊎-elim (λ done. record { exactly = done .exactly; in-time = done .in-time }) (λ left. absurd (over left ended))
+      ⊎-elim (λ done. record { exactly = done .exactly; in-time = done .in-time }) (λ left. absurd (not-run-to p fig M follows some calls ((f + 1) * p .frame) (left .clock) (left .due) ended))
       (at-end unbroken turns (at .earlier) (at .past) (at .newer) (at .split))
 
 pub demand3 : (p : Plan) (fig : Figures p) (M : Machine) → Follows p M → (calls : List Call) → Holds3 p (made p M calls .past)

@@ -15,14 +15,15 @@ use Rattle.rules.specs.Run.{Entry}
 use Rattle.rules.specs.Words.{highGrants}
 use Rattle.rules.proofs.Clash.{clash}
 use Rattle.rules.proofs.Choices.{any-intro}
-use Rattle.rules.proofs.InTurn.{Chosen, chosen}
 use Rattle.rules.proofs.Follows.{Follows}
-use Rattle.rules.proofs.Turns.{Pointed, node-counts, pointed-turn, pointers-turn}
+use Rattle.rules.proofs.Turns.{Pointed, node-counts, node-chosen, pointed-turn, pointers-turn}
 use Rattle.rules.proofs.Sound.{Told}
 use Rattle.rules.proofs.Sums.{more}
-use Rattle.rules.proofs.Fair.{Moment, Turned, goes-on, nth, turn, more-same}
+use Rattle.rules.proofs.Fair.{more-same}
+use Rattle.rules.proofs.InFrame.{FrameMoment, Turned, goes-on, nth, frame-turn}
 use Rattle.rules.proofs.Standing.{sought-high}
-use Rattle.rules.proofs.Stage.{entry, until-end, Stage, running, done, counted}
+use Rattle.rules.proofs.Held.{until-end}
+use Rattle.rules.proofs.Stage.{entry, Stage, running, done, counted}
 
 -- the turn at instant d, in the class sought, once the clock has come to it
 abbrev pub turnAt : (p : Plan) (M : Machine) → ℕ → Class → Core → M .State → Outcome (M .State)
@@ -30,14 +31,15 @@ turnAt p M d c s σ = grantTo p M d c s (M .choose c (countsIn c s) σ)
 
 module _ (p : Plan) (M : Machine) (follows : Follows p M) (k f : ℕ) (w : Within (p .nodes) k) (R : ℕ → Share)
     (t : ℕ) (past : List Entry) (s : Core) (σ : M .State) (π : Pointed p M follows σ) where
-  high-turn : (d : ℕ) → s .clock ≡ d → Moment p k f R s (π .pointers high) → frameOf p (s .clock) ≡ f
+  high-turn : (d : ℕ) → s .clock ≡ d → FrameMoment p k f R s (π .pointers high) → frameOf p (s .clock) ≡ f
       → Told p (entry (step t) (turnAt p M d high s σ .answer) ∷ past) (turnAt p M d high s σ .hub .core)
       → Stage p M follows k f R (entry (step t) (turnAt p M d high s σ .answer) ∷ past) (turnAt p M d high s σ .hub)
   unfolding highGrants
   high-turn d here now e told =
       go
       (subst (λ (x : ℕ). Turned p k f R (s .granted) node (x + bitsOf (s .request node) + p .overhead)) here
-      (turn p k f w R s (π .pointers high) now node (node-counts p M follows σ π high (countsIn high s) some) chosen-node))
+      (frame-turn p k f w R s (π .pointers high) now node (node-counts p M follows σ π high (countsIn high s) some)
+      (node-chosen p M follows σ π high (countsIn high s) some)))
     where
       node : ℕ
       node = M .choose high (countsIn high s) σ .node
@@ -46,12 +48,7 @@ module _ (p : Plan) (M : Machine) (follows : Follows p M) (k f : ℕ) (w : Withi
       end = d + bitsOf (s .request node) + p .overhead
 
       some : any (p .nodes) (countsIn high s) ≡ true
-      some = any-intro (p .nodes) (countsIn high s) (record { number = k; within = w; holds = now .counts })
-
-      chosen-node : Chosen (countsIn high s) (p .nodes) (π .pointers high) node
-      chosen-node =
-          rw (follows .node high (countsIn high s) σ (π .pointers) some (π .like))
-          (chosen p (countsIn high s) (π .pointers high) some (π .within high .low) (omega (arith, π .within high .up)))
+      some = any-intro (p .nodes) (countsIn high s) (record { number = k; within = w; holds = now .moment .counts })
 
       go : Turned p k f R (s .granted) node end
           → Stage p M follows k f R (entry (step t) (turnAt p M d high s σ .answer) ∷ past) (turnAt p M d high s σ .hub)
@@ -72,15 +69,15 @@ module _ (p : Plan) (M : Machine) (follows : Follows p M) (k f : ℕ) (w : Withi
           (rw (eq-eqb node k j, eq-eqb (frameOf p d) f (subst (λ (x : ℕ). frameOf p x ≡ f) here e)) soon)
 
   -- no turn is taken in class normal, and the line does not come to rest
-  pub turn-taken : (c : Class) (d : ℕ) → sought p s ≡ class c → s .clock ≡ d → Moment p k f R s (π .pointers high) → frameOf p (s .clock) ≡ f
+  pub turn-taken : (c : Class) (d : ℕ) → sought p s ≡ class c → s .clock ≡ d → FrameMoment p k f R s (π .pointers high) → frameOf p (s .clock) ≡ f
       → Told p (entry (step t) (turnAt p M d c s σ .answer) ∷ past) (turnAt p M d c s σ .hub .core)
       → Stage p M follows k f R (entry (step t) (turnAt p M d c s σ .answer) ∷ past) (turnAt p M d c s σ .hub)
   turn-taken high d q here now e told = high-turn d here now e told
   turn-taken normal d q here now e told =
-      let h = sought-high p s k w (now .counts) in
+      let h = sought-high p s k w (now .moment .counts) in
       clash (cc)
 
-pub no-rest : (p : Plan) (k f : ℕ) → Within (p .nodes) k → (R : ℕ → Share) (s : Core) (a : ℕ) → Moment p k f R s a → sought p s ≡ nothing → ⊥
+pub no-rest : (p : Plan) (k f : ℕ) → Within (p .nodes) k → (R : ℕ → Share) (s : Core) (a : ℕ) → FrameMoment p k f R s a → sought p s ≡ nothing → ⊥
 no-rest p k f w R s a now q =
-    let h = sought-high p s k w (now .counts) in
+    let h = sought-high p s k w (now .moment .counts) in
     clash (cc)

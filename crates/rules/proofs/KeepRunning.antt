@@ -1,48 +1,34 @@
 -- One more call, where k is within f and has fewer than n high grants there: an event stays within f, and a step is a high turn.
-use Prim.Native.Nat.{ℕ, _+_, _≤_, _<_}
-use mathlib.Core.Path.{_≡_, refl, ap}
+use Prim.Native.Nat.{ℕ, _+_, _*_, _≤_, _<_}
+use mathlib.Core.Path.{_≡_, ap}
 use mathlib.Core.Bool.{true}
 use mathlib.Core.List.{List, _∷_}
 use native.Mathlib.Omega.{arith}
 use lib.ListN.{length}
 use lib.Dec.{eqb}
 use borrow.Author.Tests.{eq-eqb}
-use Rattle.rules.specs.Choice.{any}
 use Rattle.rules.specs.Plan.{Plan}
 use Rattle.rules.specs.Drawn.{Within, Figures}
 use Rattle.rules.specs.Call.{high, Call, time}
-use Rattle.rules.specs.Core.{Core, Share, Line, busy, resting, frameOf, advance, counts, Due, at, due}
+use Rattle.rules.specs.Core.{Core, Share, resting, frameOf, advance, countsIn, at, due}
 use Rattle.rules.specs.Machine.{Machine, Outcome}
 use Rattle.rules.specs.Rows.{change}
 use Rattle.rules.specs.Run.{Entry}
 use Rattle.rules.specs.Words.{turnIn}
-use Rattle.rules.proofs.Clash.{clash}
-use Rattle.rules.proofs.Choices.{true-false}
 use Rattle.rules.proofs.Follows.{Follows}
 use Rattle.rules.proofs.Frames.{started, starts, not-ended}
 use Rattle.rules.proofs.Course.{in-time, not-due, Course, refusal, event, quietly, granting, resting as rested}
-use Rattle.rules.proofs.Instants.{Instant, line-ends, one-counts, one-held, no-instant, instant, Advanced, across, inside, advanced}
+use Rattle.rules.proofs.Instants.{Advanced, across, inside, advanced}
 use Rattle.rules.proofs.Sound.{Told}
 use Rattle.rules.proofs.Advance.{advance-clock, due-late}
-use Rattle.rules.proofs.Fair.{reach, Moment}
-use Rattle.rules.proofs.Standing.{Standing, high-counts, some-counts, DueBefore, not-behind, handled-before}
+use Rattle.rules.proofs.Fair.{reach}
+use Rattle.rules.proofs.InFrame.{FrameMoment}
+use Rattle.rules.proofs.Standing.{Standing, high-counts, DueBefore, not-behind, handled-before}
+use Rattle.rules.proofs.Held.{held-rest, held-on, held-due}
 use Rattle.rules.proofs.Changed.{kept-by-change}
-use Rattle.rules.proofs.Stage.{entry, Held, until-end, at-rest, Facts, NextHigh, Running, Stage, running, counted, standing-first, within, within-frame}
+use Rattle.rules.proofs.Stage.{entry, Facts, NextHigh, Running, Stage, running, counted, standing-first, within, within-frame}
 use Rattle.rules.proofs.Sums.{Same, it, other, same-or-not}
 use Rattle.rules.proofs.HighTurn.{turn-taken, no-rest}
-
-held-busy : {b c g : ℕ} {l : Line} (e : ℕ) → Held b c g l → l ≡ busy e → e ≤ b
-held-busy e (until-end x h) q = let r : x ≡ e = cc in omega arith
-held-busy e (at-rest h z) q = clash (cc)
-
-held-rest : {b c g : ℕ} {l : Line} → Held b c g l → l ≡ resting → (c ≤ b) × (g ≡ 0)
-held-rest (until-end x h) q = clash (cc)
-held-rest (at-rest h z) q = (h, z)
-
--- the clock goes on within the reach
-held-on : {b c g t : ℕ} {l : Line} → t ≤ b → Held b c g l → Held b t g l
-held-on h (until-end x e) = until-end x e
-held-on h (at-rest e z) = at-rest h z
 
 module _ (p : Plan) (fig : Figures p) (M : Machine) (follows : Follows p M) (k f : ℕ) (w : Within (p .nodes) k) (R : ℕ → Share) where
   module _ (past : List Entry) (s : Core) (σ : M .State) (facts : Facts p k f R past s)
@@ -51,20 +37,14 @@ module _ (p : Plan) (fig : Figures p) (M : Machine) (follows : Follows p M) (k f
     share-left = let q = ap (λ (x : Share). x .packets) (facts .force (r .in-frame) k) in omega (arith, r .left)
 
     -- an instant is due within the reach
-    pub running-due : DueBefore p s (reach p f R (s .granted) + 1)
-    running-due = go (instant p s) refl
+    pub running-due : DueBefore p s (reach p (f * p .frame) R (s .granted) + 1)
+    running-due = held-due p s k w (reach p (f * p .frame) R (s .granted)) (s .granted k) (r .held) at-rest-counts
       where
-        at-rest-counts : s .line ≡ resting → any (p .nodes) (counts s) ≡ true
-        at-rest-counts l = some-counts p s k w (high-counts s k (standing-first p k f R past s facts (r .in-frame) (held-rest (r .held) l .1)) share-left)
-
-        go : {x : Due} → Instant p s x → due p s ≡ x → DueBefore p s (reach p f R (s .granted) + 1)
-        go (line-ends e l) q = record { time = e; is = q; soon = omega (arith, held-busy e (r .held) l) }
-        go (one-counts l c) q = record { time = s .clock; is = q; soon = omega (arith, held-rest (r .held) l .0) }
-        go (one-held l c h) q = absurd (true-false (at-rest-counts l) c)
-        go (no-instant l c h) q = absurd (true-false (at-rest-counts l) c)
+        at-rest-counts : s .line ≡ resting → countsIn high s k ≡ true
+        at-rest-counts l = high-counts s k (standing-first p k f R past s facts (r .in-frame) (held-rest (r .held) l .1)) share-left
 
     -- so the clock stays within f
-    pub stays : (t : ℕ) → s .clock ≤ t → t ≤ reach p f R (s .granted) → frameOf p t ≡ f
+    pub stays : (t : ℕ) → s .clock ≤ t → t ≤ reach p (f * p .frame) R (s .granted) → frameOf p t ≡ f
     stays t late soon =
         let e = r .in-frame in
         let low = started p fig f t (omega (arith, starts p fig f (s .clock) (omega arith))) in
@@ -72,7 +52,7 @@ module _ (p : Plan) (fig : Figures p) (M : Machine) (follows : Follows p M) (k f
         omega arith
 
     -- the clock comes to a time of f within the reach, and an event changes neither line nor grants
-    event-stays : (call : Call) (t : ℕ) → s .clock ≤ t → t ≤ reach p f R (s .granted) → {c : Core} → Advanced p t s c
+    event-stays : (call : Call) (t : ℕ) → s .clock ≤ t → t ≤ reach p (f * p .frame) R (s .granted) → {c : Core} → Advanced p t s c
         → Running p M follows k f R (change call c .clock) (change call c .line) (change call c .granted) σ
     event-stays call t late soon {c} (inside l) =
         kept-by-change (λ time line G. Running p M follows k f R time line G σ) call c
@@ -87,16 +67,19 @@ module _ (p : Plan) (fig : Figures p) (M : Machine) (follows : Follows p M) (k f
     event-stays call t late soon (across l) = let e = r .in-frame in absurd (omega (arith, stays t late soon))
 
     -- the clock comes to an instant within the reach, where k's request is high
-    moment : (d : ℕ) → s .clock ≤ d → d ≤ reach p f R (s .granted) → Standing s k → {c : Core} → Advanced p d s c
-        → Moment p k f R c (r .pointed .pointers high)
+    moment : (d : ℕ) → s .clock ≤ d → d ≤ reach p (f * p .frame) R (s .granted) → Standing s k → {c : Core} → Advanced p d s c
+        → FrameMoment p k f R c (r .pointed .pointers high)
     moment d late soon h {c} (inside l) =
         record {
-          force = facts .force (r .in-frame);
+          moment =
+              record {
+                fits = λ j b e. (let q = ap (λ (x : Share). x .bits) (facts .force (r .in-frame) j) in omega (arith, facts .sound .allowed j b e .fits));
+                fair = r .fair;
+                soon = soon;
+                counts = high-counts c k (record { bits = h .bits; stands = h .stands }) share-left;
+              };
           within = within p k f R past s facts (r .in-frame);
-          fits = λ j b e. (let q = ap (λ (x : Share). x .bits) (facts .force (r .in-frame) j) in omega (arith, facts .sound .allowed j b e .fits));
-          fair = r .fair;
-          soon = soon;
-          counts = high-counts c k (record { bits = h .bits; stands = h .stands }) share-left;
+          left = r .left;
           size = r .size;
         }
     moment d late soon h (across l) = let e = r .in-frame in absurd (omega (arith, stays d late soon))
@@ -116,15 +99,15 @@ module _ (p : Plan) (fig : Figures p) (M : Machine) (follows : Follows p M) (k f
     handled-late : (d : ℕ) → due p s ≡ at d → s .clock ≤ d
     handled-late d e = due-late p fig s (facts .sound) d e
 
-    handled-soon : (d : ℕ) → due p s ≡ at d → d ≤ reach p f R (s .granted)
-    handled-soon d e = omega (arith, handled-before p s (reach p f R (s .granted) + 1) d running-due e)
+    handled-soon : (d : ℕ) → due p s ≡ at d → d ≤ reach p (f * p .frame) R (s .granted)
+    handled-soon d e = omega (arith, handled-before p s (reach p (f * p .frame) R (s .granted) + 1) d running-due e)
 
     handled-in : (d : ℕ) → due p s ≡ at d → frameOf p d ≡ f
     handled-in d e = stays d (handled-late d e) (handled-soon d e)
 
     moment-handled : (d : ℕ) → due p s ≡ at d
         → (eqb (frameOf p d) f ≡ true → NextHigh p k f R past)
-        → Moment p k f R (advance p d s) (r .pointed .pointers high)
+        → FrameMoment p k f R (advance p d s) (r .pointed .pointers high)
     moment-handled d e later =
         moment d (handled-late d e) (handled-soon d e) (standing-turn (later (eq-eqb (frameOf p d) f (handled-in d e)))) (advanced p d s)
 
@@ -136,7 +119,7 @@ module _ (p : Plan) (fig : Figures p) (M : Machine) (follows : Follows p M) (k f
     keep-running (event call e a) told later =
         running
         (event-stays call (time call) (in-time p s call a .late)
-        (omega (arith, not-behind p s (reach p f R (s .granted) + 1) (time call) running-due (not-due p s e a)))
+        (omega (arith, not-behind p s (reach p (f * p .frame) R (s .granted) + 1) (time call) running-due (not-due p s e a)))
         (advanced p (time call) s))
     keep-running (quietly t i n) told later = running r
     keep-running (granting t d c i e l n) told later =

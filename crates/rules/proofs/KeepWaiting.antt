@@ -27,15 +27,13 @@ use Rattle.rules.proofs.Turns.{Pointed, pointed-rest, node-counts, poin
 use Rattle.rules.proofs.Advance.{advance-clock}
 use Rattle.rules.proofs.AlwaysSound.{turn-counts}
 use Rattle.rules.proofs.Sums.{Same, it, other, same-or-not}
-use Rattle.rules.proofs.Fair.{reach, Fair, Moment}
+use Rattle.rules.proofs.Fair.{reach, zero-fair}
+use Rattle.rules.proofs.InFrame.{FrameMoment}
 use Rattle.rules.proofs.Standing.{high-counts, counts-or-held, DueBefore, not-behind, handled-before}
-use Rattle.rules.proofs.Stage.{entry, Held, until-end, at-rest, Facts, Running, Stage, waiting, running, standing-first, standing-before, shared}
+use Rattle.rules.proofs.Stage.{entry, Facts, Running, Stage, waiting, running, standing-first, standing-before, shared}
 use Rattle.rules.proofs.HighTurn.{turnAt, turn-taken, no-rest}
+use Rattle.rules.proofs.Held.{Held, until-end, at-rest}
 use Rattle.rules.proofs.Changed.{kept-by-change}
-
--- nobody has a grant yet
-zero-fair : (k a : ℕ) → Fair k (λ j. 0) a
-zero-fair k a = record { most = λ j d. omega arith; ahead = λ j h. omega arith }
 
 -- a core r of f, in which k's request is high with no grant yet, has that from the core c before the turn
 counted-before : (p : Plan) (k f : ℕ) (R : ℕ → Share) (now : List Entry) (r : Core) → Facts p k f R now r → frameOf p (r .clock) ≡ f → (c : Core)
@@ -95,24 +93,28 @@ module _ (p : Plan) (fig : Figures p) (M : Machine) (follows : Follows p M) (k f
           fair = zero-fair k (π .pointers high);
           left = share .0;
           size = share .1;
-          held = line-held (reach p f R (λ j. 0)) t (omega arith) (omega arith) (s .line) refl;
+          held = line-held (reach p (f * p .frame) R (λ j. 0)) t (omega arith) (omega arith) (s .line) refl;
         })
 
     -- the clock comes to an instant in f, where k's request counts
     moment : (d : ℕ) → f * p .frame ≤ d → d < f * p .frame + p .interrupt → {c : Core} → Advanced p d s c → ((j : ℕ) → c .force j ≡ R j)
-        → countsIn high c k ≡ true → Moment p k f R c (π .pointers high)
+        → countsIn high c k ≡ true → FrameMoment p k f R c (π .pointers high)
     moment d late soon (inside l) force counts = absurd (outside d (enters d late soon) l)
     moment d late soon {c} (across l) force counts =
         let stood = counts-stands high c k counts in
         let was = turned-high (s .latest k) (s .request k) (stood .0) (stood .1) in
         let b = ap (λ (x : Share). x .bits) (force k) in
+        let n = ap (λ (x : Share). x .packets) (force k) in
         record {
-          force = force;
+          moment =
+              record {
+                fits = λ j b e. (let q = ap (λ (x : Share). x .bits) (force j) in omega (arith, turned-high (s .latest j) (s .request j) b e .1 .fits));
+                fair = zero-fair k (π .pointers high);
+                soon = omega arith;
+                counts = counts;
+              };
           within = λ j. omega arith;
-          fits = λ j b e. (let q = ap (λ (x : Share). x .bits) (force j) in omega (arith, turned-high (s .latest j) (s .request j) b e .1 .fits));
-          fair = zero-fair k (π .pointers high);
-          soon = omega arith;
-          counts = counts;
+          left = omega (arith, was .1 .some);
           size = omega (arith, was .1 .fits, facts .sound .short k (stood .0) high (was .0));
         }
 

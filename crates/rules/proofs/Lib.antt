@@ -27,13 +27,16 @@ pub mod Stable
 pub mod Places
 pub mod Travel
 pub mod TravelRuns
+pub mod AnyMomentRuns
 pub mod Unchanged
 pub mod Admission
 pub mod NoTimeLost
 pub mod Sums
 pub mod Ahead
 pub mod Fair
+pub mod InFrame
 pub mod Standing
+pub mod Held
 pub mod Stage
 pub mod Changed
 pub mod HighTurn
@@ -44,6 +47,10 @@ pub mod Opening
 pub mod Keep
 pub mod Started
 pub mod Quiet
+pub mod Waiting
+pub mod Serving
+pub mod Undisturbed
+pub mod AnyMoment
 pub mod Demand3
 pub mod ControlDemand3
 pub mod Applies

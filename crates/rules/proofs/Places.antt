@@ -54,3 +54,14 @@ module _ (p : Plan) (M : Machine) where
             past = cc;
             answer = rw c (ap (λ (x : Entry). x .answer) same);
           }
+
+  -- the entries that the calls `newer` add to those of `earlier`
+  abbrev pub entries : List Call → List Call → List Entry
+  entries [] earlier = []
+  entries (call ∷ newer) earlier =
+      record { call = call; answer = perform p M call (made p M (newer ++ earlier) .hub) .answer } ∷ entries newer earlier
+
+  pub entries-of : (newer earlier : List Call) → made p M (newer ++ earlier) .past ≡ entries newer earlier ++ made p M earlier .past
+  unfolding made
+  entries-of [] earlier = refl
+  entries-of (call ∷ newer) earlier = rw (entries-of newer earlier)

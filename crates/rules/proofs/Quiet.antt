@@ -1,17 +1,23 @@
--- A run whose last call is a step that is answered quiet.
-use Prim.Native.Nat.{ℕ, _≤_}
+-- A list that is run to a time: the clock has come there, or its last call is a step that is answered quiet.
+use Prim.Native.Nat.{ℕ, _≤_, _<_}
 use mathlib.Core.Path.{_≡_, refl, sym, subst}
 use mathlib.Core.Bool.{true, false}
 use mathlib.Core.List.{List, [], _∷_}
+use native.Mathlib.Omega.{arith}
 use borrow.Author.Tests.{leb-true}
 use Rattle.rules.specs.Plan.{Plan}
+use Rattle.rules.specs.Drawn.{Figures}
 use Rattle.rules.specs.Call.{Call, ask, off, reserve, until, step, refused, taken}
 use Rattle.rules.specs.Core.{Core, due, before}
 use Rattle.rules.specs.Machine.{Machine, Hub, Outcome, perform}
 use Rattle.rules.specs.Run.{Entry, made}
 use Rattle.rules.specs.Words.{quietTo}
+use Rattle.rules.specs.Demand.{RunTo, by-clock, by-quiet}
 use Rattle.rules.proofs.Choices.{true-false}
 use Rattle.rules.proofs.Clash.{clash}
+use Rattle.rules.proofs.Follows.{Follows}
+use Rattle.rules.proofs.AlwaysTold.{told}
+use Rattle.rules.proofs.Standing.{DueBefore, not-behind}
 use Rattle.rules.proofs.Course.{Event, asking, leaving, reserving, waiting, Course, refusal, event, quietly, granting, resting, course}
 
 module _ (p : Plan) (M : Machine) where
@@ -51,3 +57,11 @@ module _ (p : Plan) (M : Machine) where
       let same : record { call = call; answer = answer } ≡ e = cc in
       quiet-course bound (made p M earlier .hub) (course p M (made p M earlier .hub) call)
       (subst (λ (x : Entry). quietTo bound (x .call) (x .answer) ≡ true) (sym same) h)
+
+-- where an instant is due before a time that the clock is before too, no list is run to that time
+pub not-run-to : (p : Plan) (fig : Figures p) (M : Machine) (follows : Follows p M) → 1 ≤ p .nodes → (calls : List Call) (time : ℕ)
+    → made p M calls .hub .core .clock < time → DueBefore p (made p M calls .hub .core) time → RunTo time (made p M calls .past) → ⊥
+not-run-to p fig M follows some calls time early soon (by-clock late) = omega (arith, told p fig M follows some calls .clock)
+not-run-to p fig M follows some calls time early soon (by-quiet e past q h) =
+    let quiet = quiet-end p M time calls e past q h in
+    omega (arith, quiet .far, not-behind p (made p M calls .hub .core) time (quiet .time) soon (quiet .nothing-due))

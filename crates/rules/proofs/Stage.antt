@@ -7,7 +7,7 @@ use lib.ListN.{length, getD}
 use Rattle.rules.specs.Plan.{Plan}
 use Rattle.rules.specs.Drawn.{Within, Figures}
 use Rattle.rules.specs.Call.{high, Call, Answer}
-use Rattle.rules.specs.Core.{Core, Share, Line, resting, busy, frameOf}
+use Rattle.rules.specs.Core.{Core, Share, Line, frameOf}
 use Rattle.rules.specs.Rows.{loads}
 use Rattle.rules.specs.Machine.{Machine, Hub}
 use Rattle.rules.specs.Run.{Entry}
@@ -19,15 +19,11 @@ use Rattle.rules.proofs.Sound.{Sound, Told}
 use Rattle.rules.proofs.Sums.{spent, room}
 use Rattle.rules.proofs.Fair.{Fair, cost, reach}
 use Rattle.rules.proofs.Standing.{Standing}
+use Rattle.rules.proofs.Held.{Held}
 
 -- a call with its answer
 abbrev pub entry : Call → Answer → Entry
 entry call answer = record { call = call; answer = answer }
-
--- the line, where it can be busy up to b: busy until then at the latest, or it rests and k, with no grant yet, has not been kept waiting longer
-pub data Held (b clock grants : ℕ) : Line → Type 0 where
-  until-end : (e : ℕ) → e ≤ b → Held b clock grants (busy e)
-  at-rest : clock ≤ b → grants ≡ 0 → Held b clock grants resting
 
 -- what is read off the list at a place, from the place on where k's request stands unbroken; R is what is reserved in f
 pub record Facts (p : Plan) (k f : ℕ) (R : ℕ → Share) (past : List Entry) (s : Core) : Type 0 where
@@ -48,7 +44,7 @@ module _ (p : Plan) (M : Machine) (follows : Follows p M) (k f : ℕ) (R : ℕ �
     pub fair : Fair k G (pointed .pointers high)
     pub left : G k < R k .packets
     pub size : 1 ≤ R k .bits
-    pub held : Held (reach p f R G) clock (G k) line
+    pub held : Held (reach p (f * p .frame) R G) clock (G k) line
 
   pub data Stage (past : List Entry) (h : Hub (M .State)) : Type 0 where
     waiting : h .core .clock < f * p .frame → Pointed p M follows (h .turn) → Stage past h
@@ -92,7 +88,7 @@ module _ (p : Plan) (k f : ℕ) (R : ℕ → Share) (past : List Entry) (s : Cor
         (omega arith, omega arith)
 
     -- while k's share is not spent, the reach leaves room for one more grant of k, within f
-    pub within-frame : Figures p → Within (p .nodes) k → s .granted k < R k .packets → 1 ≤ R k .bits → reach p f R (s .granted) < (f + 1) * p .frame
+    pub within-frame : Figures p → Within (p .nodes) k → s .granted k < R k .packets → 1 ≤ R k .bits → reach p (f * p .frame) R (s .granted) < (f + 1) * p .frame
     within-frame fig w left size =
         let same : loads p (s .force) ≡ loads p R = ap (loads p) (fun-ext (at-place .force e)) in
         let fits = room (p .nodes) (s .granted) (λ j. R j .packets) (cost p R) k w (λ j v. within j) left in

@@ -19,8 +19,9 @@ use Rattle.rules.proofs.Frames.{frame-of-start}
 use Rattle.rules.proofs.Sums.{Same, it, other, same-or-not}
 use Rattle.rules.proofs.Ahead.{Ahead, behind-is, passed-not-ahead}
 use Rattle.rules.proofs.Fair.{Fair, reach}
+use Rattle.rules.proofs.Held.{Held, until-end, at-rest}
 use Rattle.rules.proofs.Opening.{Opening, nobody, only, Opened}
-use Rattle.rules.proofs.Stage.{Held, until-end, at-rest, Facts, Stage, waiting, running, counted, standing-first, shared}
+use Rattle.rules.proofs.Stage.{Facts, Stage, waiting, running, counted, standing-first, shared}
 
 -- at the start no node has two high grants, and one that lies ahead of k has none
 opening-fair : (p : Plan) (k : ℕ) → Within (p .nodes) k → (clock : ℕ) (line : Line) (G : ℕ → ℕ) (a : ℕ) → G k ≡ 0
@@ -41,7 +42,7 @@ opening-fair p k w clock line G a z (only i e v l b g n x) = record { most = λ 
 module _ (p : Plan) (fig : Figures p) (M : Machine) (follows : Follows p M) (k f : ℕ) (w : Within (p .nodes) k) (R : ℕ → Share) where
   module _ (past : List Entry) (h : Hub (M .State)) (facts : Facts p k f R past (h .core)) (opened : Opened p M follows h) where
     held : f * p .frame ≡ h .core .clock → h .core .granted k ≡ 0 → (l : Line) → h .core .line ≡ l
-        → Held (reach p f R (h .core .granted)) (h .core .clock) (h .core .granted k) l
+        → Held (reach p (f * p .frame) R (h .core .granted)) (h .core .clock) (h .core .granted k) l
     held start z (busy e) q = until-end e (omega (arith, facts .sound .end-soon e q, fig .interrupt-low))
     held start z resting q = at-rest (omega arith) z
 

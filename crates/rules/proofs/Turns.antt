@@ -56,6 +56,12 @@ module _ (p : Plan) (M : Machine) (follows : Follows p M) where
       pub node-counts : Counting (p .nodes) f (M .choose c f σ .node)
       node-counts = rw (follows .node c f σ (π .pointers) some (π .like)) choice
 
+      -- it is the first from the pointer on, going round
+      pub node-chosen : Chosen f (p .nodes) (π .pointers c) (M .choose c f σ .node)
+      node-chosen =
+          rw (follows .node c f σ (π .pointers) some (π .like))
+          (chosen p f (π .pointers c) some (π .within c .low) (omega (arith, π .within c .up)))
+
       pub pointed-turn : Pointed (M .choose c f σ .state)
       pointed-turn =
           record {

@@ -1,9 +1,8 @@
 -- Demand 3 as one claim about a list of calls and answers, the latest first. No state is mentioned.
 use Prim.Native.Nat.{ℕ, _+_, _*_, _≤_, _<_}
 use mathlib.Core.Path.{_≡_}
-use mathlib.Core.Bool.{Bool, true, false}
+use mathlib.Core.Bool.{true}
 use mathlib.Core.List.{List, [], _∷_, _++_}
-use mathlib.Core.Logic.{_⊎_}
 use lib.ListN.{length, getD}
 use Rattle.rules.specs.Plan.{Plan}
 use Rattle.rules.specs.Run.{Entry}
@@ -26,10 +25,10 @@ module _ (p : Plan) (k f : ℕ) (whole : List Entry) where
     pub high : (later : List Entry) (e : Entry) (before : List Entry) → whole ≡ later ++ (e ∷ before) → turnIn p f (e .call) (e .answer) ≡ true
         → 1 ≤ length (highGrants p k f before) → length (highGrants p k f before) < n → High p k before
 
-  -- Run to the frame's end: the clock is at least (f + 1) × T, or the last call is a step with at least that bound, answered quiet
-  pub data Ended : Type 0 where
-    by-clock : (f + 1) * p .frame ≤ clockAt whole → Ended
-    by-quiet : (e : Entry) (before : List Entry) → whole ≡ e ∷ before → quietTo ((f + 1) * p .frame) (e .call) (e .answer) ≡ true → Ended
+-- Run to a time: the clock is at least that, or the last call is a step with at least that bound, answered quiet
+pub data RunTo (time : ℕ) (whole : List Entry) : Type 0 where
+  by-clock : time ≤ clockAt whole → RunTo time whole
+  by-quiet : (e : Entry) (before : List Entry) → whole ≡ e ∷ before → quietTo time (e .call) (e .answer) ≡ true → RunTo time whole
 
 -- Over a list of calls: a node with n reserved packets whose request stands gets exactly n high grants in the frame, the nth ending within the delay
 -- limit. (`highGrants` has the latest first, so the nth of n stands at its head.)
@@ -38,5 +37,5 @@ pub record Demand3 (p : Plan) (k f : ℕ) (whole : List Entry) : Type 0 where
   pub in-time : getD (highGrants p k f whole) 0 0 ≤ f * p .frame + delayLimit p k (λ j. reserved p j f whole)
 
 pub record Holds3 (p : Plan) (whole : List Entry) : Type 0 where
-  pub demand : (k f : ℕ) → 1 ≤ k → k ≤ p .nodes → Unbroken p k f whole → NextTurns p k f whole (reserved p k f whole .packets) → Ended p k f whole
-      → Demand3 p k f whole
+  pub demand : (k f : ℕ) → 1 ≤ k → k ≤ p .nodes → Unbroken p k f whole → NextTurns p k f whole (reserved p k f whole .packets)
+      → RunTo ((f + 1) * p .frame) whole → Demand3 p k f whole

@@ -14,8 +14,10 @@ pub mod Saving
 pub mod Travel
 pub mod Words
 pub mod Demand
+pub mod AnyMoment
 pub mod Promises
 pub mod Sample
 pub mod Slips
 pub mod TurningSlips
 pub mod TravelRuns
+pub mod AnyMomentRuns
