@@ -16,7 +16,7 @@ use Rattle.rules.specs.Machine.{Machine, perform}
 use Rattle.rules.specs.Run.{Entry, made}
 use Rattle.rules.specs.Words.{clockAt, reserved, requestAt, highGrants}
 use Rattle.rules.specs.Demand.{RunTo}
-use Rattle.rules.specs.AnyMoment.{none, granted, firstGrant, keptStanding, waitsTo, waitLimit, PutUp, latestGrant, Served, AnyMoment}
+use Rattle.rules.specs.AnyMoment.{none, granted, firstGrant, keptStanding, waitsTo, waitLimit, farEnough, PutUp, Served, AnyMoment}
 use Rattle.rules.proofs.Follows.{Follows}
 use Rattle.rules.proofs.Control.Like.{control-follows}
 use Rattle.rules.proofs.Frames.{frame-mono}
@@ -189,7 +189,7 @@ module _ (p : Plan) (fig : Figures p) (M : Machine) (follows : Follows p M) (som
           unchanged = λ j f v low up. r .unchanged j f v low (omega arith) ∙ stays-reserved here newer j;
         }
 
-    in-all : RunTo (latestGrant p k t (made p M (newer ++ asked) .past) + 1) (made p M (newer ++ asked) .past)
+    in-all : RunTo (farEnough p k t (made p M (newer ++ asked) .past)) (made p M (newer ++ asked) .past)
         → Served p k t (made p M (newer ++ asked) .past) (r .since)
     in-all run =
         let limit = ap (waitLimit p k) shares in
@@ -207,11 +207,11 @@ module _ (p : Plan) (fig : Figures p) (M : Machine) (follows : Follows p M) (som
   any-moment = record { served = λ k t r run. at-place k t r (made-at p M calls (r .since) _ (r .before) (r .place)) run }
     where
       at-place : (k t : ℕ) (r : PutUp p k t (made p M calls .past)) → Made-at p M calls (record { call = ask high t k (r .bits); answer = taken }) (r .before)
-          → RunTo (latestGrant p k t (made p M calls .past) + 1) (made p M calls .past) → Served p k t (made p M calls .past) (r .since)
+          → RunTo (farEnough p k t (made p M calls .past)) (made p M calls .past) → Served p k t (made p M calls .past) (r .since)
       at-place k t r at =
           subst
           (λ (x : List Call). (q : PutUp p k t (made p M x .past)) → q .bits ≡ r .bits → q .before ≡ made p M (at .earlier) .past
-          → RunTo (latestGrant p k t (made p M x .past) + 1) (made p M x .past) → Served p k t (made p M x .past) (q .since))
+          → RunTo (farEnough p k t (made p M x .past)) (made p M x .past) → Served p k t (made p M x .past) (q .since))
           (sym (at .split)) (in-all p fig M follows some k t (r .bits) (at .earlier) (at .newer) (sym (at .answer))) r refl (at .past)
 
 -- of hub-by-hub control, for every plan that is taken

@@ -2,24 +2,25 @@
 use Prim.Native.Nat.{ℕ, _+_, _-_, _≤_}
 use mathlib.Core.Path.{_≡_, refl, sym, ap, ap₂, _∙_, subst}
 use mathlib.Core.Bool.{true, false}
-use mathlib.Core.List.{List, [], _∷_, _++_}
+use mathlib.Core.List.{List, [], _∷_, _++_, reverse}
 use mathlib.Core.Logic.{⊎-elim}
 use native.Mathlib.Omega.{arith}
 use lib.Dec.{leb, eqb}
 use lib.ListN.{take, drop, length, take-append-drop}
 use borrow.Author.Tests.{ltb-true, leb-true, eqb-true, not-true, not-false}
 use Rattle.rules.specs.Choice.{any, sum, first}
-use Rattle.rules.specs.Drawn.{Within}
+use Rattle.rules.specs.Drawn.{Within, Drawn}
 use Rattle.rules.specs.Core.{Share, advance, countsIn, counts, held, due, sought}
 use Rattle.rules.specs.Control.{below, lowest, walk, led, nearest, chooseBy}
 use Rattle.rules.specs.Machine.{perform}
 use Rattle.rules.specs.Run.{Entry, made}
 use Rattle.rules.specs.Words.{clockAt, reserved, highGrants, quietTo}
 use Rattle.rules.specs.Demand.{RunTo, by-clock, by-quiet}
-use Rattle.rules.specs.AnyMoment.{firstGrant, keptStanding, waitLimit, latestGrant, PutUp}
-use Rattle.rules.specs.AnyMomentRuns.{Worked, sameShare, ranTo, whole, upTo, since, frame, lastFrame, someChange, figures, putUp, worked-waits, AllRight, AllPutUp}
+use Rattle.rules.specs.AnyMoment.{firstGrant, keptStanding, waitLimit, packetsThen, farEnough, PutUp, Served}
+use Rattle.rules.specs.AnyMomentRuns.{Worked, sameShare, ranTo, whole, upTo, since, frame, last, someChange, figures, putUp, worked-waits, AllRight, AllPutUp}
 use Rattle.rules.proofs.Choices.{any-none, and-both, or-cases, true-false}
 use Rattle.rules.proofs.Sums.{Same, it, other, same-or-not}
+use Rattle.rules.proofs.AnyMoment.{control-any-moment}
 use Rattle.rules.proofs.Clash.{clash}
 
 pub worked-right : AllRight worked-waits
@@ -47,10 +48,10 @@ same-share r q e =
 pub record ItsRequest (x : Worked) : Type 0 where
   pub request : PutUp (x .plan) (x .node) (x .time) (whole x)
   pub its-since : request .since ≡ since x
-  pub run : RunTo (latestGrant (x .plan) (x .node) (x .time) (whole x) + 1) (whole x)
+  pub run : RunTo (farEnough (x .plan) (x .node) (x .time) (whole x)) (whole x)
 
 module _ (x : Worked) where
-  same-shares : someChange x ≡ false → (j f : ℕ) → Within (x .plan .nodes) j → frame x ≤ f → f ≤ lastFrame x
+  same-shares : someChange x ≡ false → (j f : ℕ) → Within (x .plan .nodes) j → frame x ≤ f → f ≤ last x
       → reserved (x .plan) j f (whole x) ≡ reserved (x .plan) j (frame x) (whole x)
   same-shares e j f v low up = go (same-or-not f (frame x))
     where
@@ -58,7 +59,7 @@ module _ (x : Worked) where
       go (it q) = ap (λ (y : ℕ). reserved (x .plan) j y (whole x)) q
       go (other d) =
           let i = f - frame x in
-          let some = any-none (lastFrame x - frame x) _ e i (record { low = omega arith; up = omega arith }) in
+          let some = any-none (last x - frame x) _ e i (record { low = omega arith; up = omega arith }) in
           let same = same-share _ _ (not-false _ (any-none (x .plan .nodes) _ some j v)) in
           let at-f : frame x + i ≡ f = omega arith in
           subst (λ (y : ℕ). reserved (x .plan) j y (whole x) ≡ reserved (x .plan) j (frame x) (whole x)) at-f same
@@ -72,7 +73,7 @@ module _ (x : Worked) where
       go [] i p e = clash (cc)
       go (asked ∷ before) i p e =
           let is : asked ≡ putUp x = cc in
-          let few = ltb-true (length (highGrants (x .plan) (x .node) (frame x) (drop 1 (upTo x)))) (reserved (x .plan) (x .node) (frame x) (whole x) .packets) left in
+          let few = ltb-true (length (highGrants (x .plan) (x .node) (frame x) (drop 1 (upTo x)))) (packetsThen (x .plan) (x .node) (x .time) (whole x)) left in
           let behind = ap (λ (l : List Entry). length (highGrants (x .plan) (x .node) (frame x) (drop 1 l))) i in
           record {
             request =
@@ -86,5 +87,11 @@ module _ (x : Worked) where
                   unchanged = same-shares (not-true (someChange x) unchanged);
                 };
             its-since = refl;
-            run = ran-to (latestGrant (x .plan) (x .node) (x .time) (whole x) + 1) (whole x) run;
+            run = ran-to (farEnough (x .plan) (x .node) (x .time) (whole x)) (whole x) run;
           }
+
+  -- so the theorem speaks of it, on every plan that is taken
+  pub its-grant : Drawn (x .plan) → ItsRequest x → Served (x .plan) (x .node) (x .time) (whole x) (since x)
+  its-grant drawn r =
+      subst (Served (x .plan) (x .node) (x .time) (whole x)) (r .its-since)
+      (control-any-moment (x .plan) drawn (reverse (x .calls)) .served (x .node) (x .time) (r .request) (r .run))

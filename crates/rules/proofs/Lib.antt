@@ -27,7 +27,6 @@ pub mod Stable
 pub mod Places
 pub mod Travel
 pub mod TravelRuns
-pub mod AnyMomentRuns
 pub mod Unchanged
 pub mod Admission
 pub mod NoTimeLost
@@ -51,6 +50,7 @@ pub mod Waiting
 pub mod Serving
 pub mod Undisturbed
 pub mod AnyMoment
+pub mod AnyMomentRuns
 pub mod Demand3
 pub mod ControlDemand3
 pub mod Applies

@@ -80,6 +80,22 @@ unfoldable pub waitLimit : Plan → ℕ → (ℕ → Share) → ℕ
 waitLimit p k r = p .interrupt + sum (p .nodes) (waitPart p k r)
 
 module _ (p : Plan) (k t : ℕ) (whole : List Entry) where
+  -- n: what k has reserved in the frame of t
+  abbrev pub packetsThen : ℕ
+  packetsThen = reserved p k (frameOf p t) whole .packets
+
+  -- the frame of the grant behind the request, or of the clock if none comes
+  abbrev pub lastFrame : List Entry → ℕ
+  lastFrame since = frameOf p (waitsTo (firstGrant k since) (clockAt whole))
+
+  -- t + D + the sum of c of every other node with n at least 1 in the frame of t
+  abbrev pub latestGrant : ℕ
+  latestGrant = t + waitLimit p k (λ j. reserved p j (frameOf p t) whole)
+
+  -- the steps are run that far if they are run to a time above the limit
+  abbrev pub farEnough : ℕ
+  farEnough = latestGrant + 1
+
   -- node k puts up a high request at t, at a place with `before` behind it and `since` after it
   pub record PutUp : Type 0 where
     pub bits : ℕ
@@ -87,16 +103,12 @@ module _ (p : Plan) (k t : ℕ) (whole : List Entry) where
     pub before : List Entry
     pub place : whole ≡ since ++ (record { call = ask high t k bits; answer = taken } ∷ before)
     -- with fewer than n high grants in that frame
-    pub left : length (highGrants p k (frameOf p t) before) < reserved p k (frameOf p t) whole .packets
+    pub left : length (highGrants p k (frameOf p t) before) < packetsThen
     -- it is kept standing
     pub stands : keptStanding k since ≡ true
     -- no change comes into force: in each frame from there up to the grant's, every node has what it has reserved in that one
-    pub unchanged : (j f : ℕ) → Within (p .nodes) j → frameOf p t ≤ f → f ≤ frameOf p (waitsTo (firstGrant k since) (clockAt whole))
+    pub unchanged : (j f : ℕ) → Within (p .nodes) j → frameOf p t ≤ f → f ≤ lastFrame since
         → reserved p j f whole ≡ reserved p j (frameOf p t) whole
-
-  -- t + D + the sum of c of every other node with n at least 1 in that frame
-  abbrev pub latestGrant : ℕ
-  latestGrant = t + waitLimit p k (λ j. reserved p j (frameOf p t) whole)
 
   -- k is granted, in class high, no later
   pub record Served (since : List Entry) : Type 0 where
@@ -104,6 +116,6 @@ module _ (p : Plan) (k t : ℕ) (whole : List Entry) where
     pub is : firstGrant k since ≡ granted high time
     pub soon : time ≤ latestGrant
 
--- Over a list of calls, where the steps are run that far: the clock is above the limit, or the last call is a step with a bound above it, answered quiet
+-- Over a list of calls, with the steps run that far: the clock is above the limit, or the last call is a step with a bound above it, answered quiet
 pub record AnyMoment (p : Plan) (whole : List Entry) : Type 0 where
-  pub served : (k t : ℕ) (request : PutUp p k t whole) → RunTo (latestGrant p k t whole + 1) whole → Served p k t whole (request .since)
+  pub served : (k t : ℕ) (request : PutUp p k t whole) → RunTo (farEnough p k t whole) whole → Served p k t whole (request .since)

@@ -1,5 +1,5 @@
 -- Lists worked out by hand for request 5 of document 02, on document 01's plan: two in which the request waits just as long as it may, in one of them over a frame's
--- start; one in which another node asks again and again; and four in which one premise fails and the grant comes later than the limit, or not at all.
+-- start; one in which other nodes ask again and again; and five in which one premise fails, and the grant comes too late, not at all, or in class normal.
 use Prim.Native.Nat.{ℕ, _+_, _-_}
 use mathlib.Core.Path.{_≡_}
 use mathlib.Core.Bool.{Bool, true, false, not, _&&_, _||_}
@@ -8,12 +8,12 @@ use lib.Dec.{ltb, leb, eqb}
 use lib.ListN.{length, take, drop}
 use Rattle.rules.specs.Choice.{any}
 use Rattle.rules.specs.Plan.{Plan}
-use Rattle.rules.specs.Call.{normal, high, Call, ask, off, reserve, step, Answer, taken, refused, grant, rest, quiet}
+use Rattle.rules.specs.Call.{normal, high, Call, ask, off, reserve, until, step, Answer, taken, refused, grant, rest, quiet}
 use Rattle.rules.specs.Core.{Share, frameOf}
 use Rattle.rules.specs.Control.{control}
 use Rattle.rules.specs.Run.{Entry, made, answers}
 use Rattle.rules.specs.Words.{clockAt, reserved, highGrants, quietTo}
-use Rattle.rules.specs.AnyMoment.{Grant, none, granted, firstGrant, keptStanding, waitsTo, latestGrant}
+use Rattle.rules.specs.AnyMoment.{Grant, none, granted, firstGrant, keptStanding, packetsThen, lastFrame, latestGrant, farEnough}
 use Rattle.rules.specs.Sample.{plan01}
 
 -- what is worked out of a list of calls: the answers; whether each premise holds of the request; the grant to its node, and the limit
@@ -59,13 +59,13 @@ module _ (x : Worked) where
   abbrev pub frame : ℕ
   frame = frameOf (x .plan) (x .time)
 
-  abbrev pub lastFrame : ℕ
-  lastFrame = frameOf (x .plan) (waitsTo (firstGrant (x .node) since) (clockAt whole))
+  abbrev pub last : ℕ
+  last = lastFrame (x .plan) (x .node) (x .time) whole since
 
   -- whether some node has something else reserved in one of the frames behind the request's, up to the last one of the wait
   abbrev pub someChange : Bool
   someChange =
-      any (lastFrame - frame)
+      any (last - frame)
       (λ i. any (x .plan .nodes) (λ j. not (sameShare (reserved (x .plan) j (frame + i) whole) (reserved (x .plan) j frame whole))))
 
   -- what the definitions give
@@ -73,10 +73,10 @@ module _ (x : Worked) where
   figures =
       record {
         told = answers (x .plan) (control (x .plan)) (x .calls);
-        left = ltb (length (highGrants (x .plan) (x .node) frame (drop 1 upTo))) (reserved (x .plan) (x .node) frame whole .packets);
+        left = ltb (length (highGrants (x .plan) (x .node) frame (drop 1 upTo))) (packetsThen (x .plan) (x .node) (x .time) whole);
         stands = keptStanding (x .node) since;
         unchanged = not someChange;
-        run = ranTo (latestGrant (x .plan) (x .node) (x .time) whole + 1) whole;
+        run = ranTo (farEnough (x .plan) (x .node) (x .time) whole) whole;
         grant = firstGrant (x .node) since;
         limit = latestGrant (x .plan) (x .node) (x .time) whole;
       }
@@ -89,7 +89,8 @@ putUp x = record { call = ask high (x .time) (x .node) (x .bits); answer = taken
 abbrev pub reserves : List Call
 reserves = reserve 0 1 1 4000 ∷ reserve 0 2 1 3000 ∷ reserve 0 3 1 2000 ∷ reserve 0 4 2 512 ∷ []
 
--- Within a frame: at 150,000 a normal packet of 12,000 has just begun, and nodes 1, 2 and 3 go before node 4. 150,000 + 13,000 + 5,000 + 4,000 + 3,000
+-- Within a frame: at 150,000 a normal packet of 12,000 has just begun, and nodes 1, 2 and 3 go before node 4. 150,000 + 13,000 + 5,000 + 4,000 + 3,000. That node 1
+-- gives its packet up from frame 2 on makes no difference
 abbrev pub full-wait : Worked
 full-wait =
     record {
@@ -99,14 +100,14 @@ full-wait =
       bits = 512;
       calls =
           reserves
-          ++ (ask normal 150000 2 12000 ∷ step 200000 ∷ ask high 150000 4 512
+          ++ (reserve 110000 1 0 0 ∷ ask normal 150000 2 12000 ∷ step 200000 ∷ ask high 150000 4 512
           ∷ ask high 150000 1 4000 ∷ ask high 150000 2 3000 ∷ ask high 163000 3 2000 ∷ step 200000 ∷ step 200000 ∷ step 200000 ∷ step 200000 ∷ step 200000 ∷ []);
       behind = 8;
       expected =
           record {
             told =
                 taken ∷ taken ∷ taken ∷ taken
-                ∷ taken ∷ grant 150000 2 normal 163000 1 ∷ taken
+                ∷ taken ∷ taken ∷ grant 150000 2 normal 163000 1 ∷ taken
                 ∷ taken ∷ taken ∷ taken ∷ grant 163000 1 high 168000 1 ∷ grant 168000 2 high 172000 1 ∷ grant 172000 3 high 175000 0
                 ∷ grant 175000 4 high 176512 1 ∷ rest 176512 0 ∷ [];
             left = true;
@@ -119,7 +120,7 @@ full-wait =
     }
 
 -- Over a frame's start: node 4 has had one of its two packets in frame 1, and node 1 its only one. So node 1's next request is held; in frame 2, where it counts
--- from 0 anew, it goes before node 4 all the same. 195,000 + 13,000 + 5,000 + 4,000 + 3,000
+-- from 0 anew, it goes before node 4 all the same. 195,000 + 13,000 + 5,000 + 4,000 + 3,000. Behind its grant node 4 asks for its next one
 abbrev pub full-wait-across : Worked
 full-wait-across =
     record {
@@ -132,8 +133,8 @@ full-wait-across =
           ++ (ask high 110000 1 4000 ∷ step 190000 ∷ ask high 115000 4 512 ∷ step 190000 ∷ step 190000
           ∷ ask normal 195000 2 12000 ∷ step 300000 ∷ ask high 195000 4 512
           ∷ ask high 195000 1 4000 ∷ ask high 200000 2 3000 ∷ ask high 208000 3 2000 ∷ step 300000 ∷ step 300000 ∷ step 300000 ∷ step 300000
-          ∷ step 300000 ∷ step 220001 ∷ []);
-      behind = 9;
+          ∷ ask high 221512 4 512 ∷ step 300000 ∷ step 220001 ∷ []);
+      behind = 10;
       expected =
           record {
             told =
@@ -141,7 +142,7 @@ full-wait-across =
                 ∷ taken ∷ grant 110000 1 high 115000 0 ∷ taken ∷ grant 115000 4 high 116512 0 ∷ rest 116512 0
                 ∷ taken ∷ grant 195000 2 normal 208000 1 ∷ taken
                 ∷ taken ∷ taken ∷ taken ∷ grant 208000 1 high 213000 1 ∷ grant 213000 2 high 217000 1 ∷ grant 217000 3 high 220000 0
-                ∷ grant 220000 4 high 221512 1 ∷ rest 221512 0 ∷ refused 11 ∷ [];
+                ∷ grant 220000 4 high 221512 1 ∷ taken ∷ grant 221512 4 high 223024 0 ∷ refused 11 ∷ [];
             left = true;
             stands = true;
             unchanged = true;
@@ -210,24 +211,46 @@ share-spent =
           };
     }
 
--- The request is withdrawn, and put up again when the limit is over
-abbrev pub put-up-again : Worked
-put-up-again =
+-- The request is withdrawn
+abbrev pub withdrawn : Worked
+withdrawn =
     record {
       plan = plan01;
       node = 4;
       time = 150000;
       bits = 512;
-      calls = reserves ++ (ask high 150000 4 512 ∷ off 150000 4 ∷ ask high 180000 4 512 ∷ step 190000 ∷ []);
-      behind = 3;
+      calls = reserves ++ (ask high 150000 4 512 ∷ off 150000 4 ∷ until 176000 ∷ []);
+      behind = 2;
       expected =
           record {
-            told = taken ∷ taken ∷ taken ∷ taken ∷ taken ∷ taken ∷ taken ∷ grant 180000 4 high 181512 0 ∷ [];
+            told = taken ∷ taken ∷ taken ∷ taken ∷ taken ∷ taken ∷ taken ∷ [];
             left = true;
             stands = false;
             unchanged = true;
             run = true;
-            grant = granted high 180000;
+            grant = none;
+            limit = 175000;
+          };
+    }
+
+-- A normal request takes its place
+abbrev pub asked-normal : Worked
+asked-normal =
+    record {
+      plan = plan01;
+      node = 4;
+      time = 150000;
+      bits = 512;
+      calls = reserves ++ (ask high 150000 4 512 ∷ ask normal 150000 4 512 ∷ step 190000 ∷ step 190000 ∷ until 176000 ∷ []);
+      behind = 4;
+      expected =
+          record {
+            told = taken ∷ taken ∷ taken ∷ taken ∷ taken ∷ taken ∷ grant 150000 4 normal 151512 0 ∷ rest 151512 0 ∷ taken ∷ [];
+            left = true;
+            stands = false;
+            unchanged = true;
+            run = true;
+            grant = granted normal 150000;
             limit = 175000;
           };
     }
@@ -261,7 +284,7 @@ more-reserved =
           };
     }
 
--- No step is made
+-- The steps are run to the limit, but not above it: the instant at the limit itself is still to be handled
 abbrev pub not-run : Worked
 not-run =
     record {
@@ -269,11 +292,17 @@ not-run =
       node = 4;
       time = 150000;
       bits = 512;
-      calls = reserves ++ (ask high 150000 4 512 ∷ []);
-      behind = 0;
+      calls =
+          reserves
+          ++ (ask normal 150000 2 12000 ∷ step 200000 ∷ ask high 150000 4 512
+          ∷ ask high 150000 1 4000 ∷ ask high 150000 2 3000 ∷ ask high 150000 3 2000 ∷ step 200000 ∷ step 200000 ∷ step 200000 ∷ step 175000 ∷ []);
+      behind = 7;
       expected =
           record {
-            told = taken ∷ taken ∷ taken ∷ taken ∷ taken ∷ [];
+            told =
+                taken ∷ taken ∷ taken ∷ taken
+                ∷ taken ∷ grant 150000 2 normal 163000 1 ∷ taken
+                ∷ taken ∷ taken ∷ taken ∷ grant 163000 1 high 168000 1 ∷ grant 168000 2 high 172000 1 ∷ grant 172000 3 high 175000 0 ∷ quiet ∷ [];
             left = true;
             stands = true;
             unchanged = true;
@@ -284,7 +313,7 @@ not-run =
     }
 
 abbrev pub worked-waits : List Worked
-worked-waits = full-wait ∷ full-wait-across ∷ passed-once ∷ share-spent ∷ put-up-again ∷ more-reserved ∷ not-run ∷ []
+worked-waits = full-wait ∷ full-wait-across ∷ passed-once ∷ share-spent ∷ withdrawn ∷ asked-normal ∷ more-reserved ∷ not-run ∷ []
 
 -- row by row
 abbrev pub AllRight : List Worked → Type 0
