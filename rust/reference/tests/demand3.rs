@@ -3,8 +3,8 @@
 
 mod common;
 
-use common::{flat, plan};
-use reference::core::{Class, Turns};
+use common::{flat, plan, Lowest};
+use reference::core::Class;
 use reference::demand3::{measure, Held, Watch};
 use reference::fast::Fast;
 use reference::hub::{Answer, Call, Calls, Hub};
@@ -130,19 +130,6 @@ impl Words<'_> {
             }
         }
         all
-    }
-}
-
-/// A wrong way to choose: always the lowest node.
-struct Lowest(usize);
-
-impl Turns for Lowest {
-    fn choose(&mut self, _: Class, counts: &dyn Fn(usize) -> bool) -> (usize, u64) {
-        ((1..=self.0).find(|&k| counts(k)).unwrap(), 0)
-    }
-
-    fn rest(&mut self) -> u64 {
-        0
     }
 }
 

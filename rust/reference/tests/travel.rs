@@ -4,7 +4,7 @@
 
 mod common;
 
-use common::{control, texts_now};
+use common::{control, numbers, texts_now};
 use reference::hub::Answer;
 use reference::plan::Plan;
 use reference::random::calls::{Caller, Style};
@@ -110,12 +110,6 @@ fn runs_keep_their_bound_and_meet_it() {
     let met = lists(0..5_000, 400);
     assert!(met.runs > 1_000_000 && met.longest > 100 && met.most_hubs == 32, "{met:?}");
     assert!((0..4).all(|returns| met.met.get(&returns).is_some_and(|&runs| runs > 100)), "{met:?}");
-}
-
-/// The numbers of a line of the log that begins with this word.
-fn numbers(line: &str, word: &str) -> Option<Vec<u64>> {
-    let inside = line.strip_prefix(word)?.strip_suffix(')')?;
-    Some(inside.split(' ').filter_map(|number| number.parse().ok()).collect())
 }
 
 /// The logs of another model: what they tell is enough to hold them against it.

@@ -2,7 +2,7 @@
 #![allow(dead_code)]
 
 use reference::control::Control;
-use reference::core::Class;
+use reference::core::{Class, Turns};
 use reference::fast::Fast;
 use reference::flat::Flat;
 use reference::hub::{Answer, Calls, Hub};
@@ -63,4 +63,23 @@ pub fn texts_now() -> Vec<PathBuf> {
     all.retain(|path| !after.join(path.file_name().unwrap()).exists());
     all.extend(texts(&after));
     all
+}
+
+/// The numbers of a line of the log that begins with this word.
+pub fn numbers(line: &str, word: &str) -> Option<Vec<u64>> {
+    let inside = line.strip_prefix(word)?.strip_suffix(')')?;
+    Some(inside.split(' ').filter_map(|number| number.parse().ok()).collect())
+}
+
+/// A wrong way to choose: always the lowest node.
+pub struct Lowest(pub usize);
+
+impl Turns for Lowest {
+    fn choose(&mut self, _: Class, counts: &dyn Fn(usize) -> bool) -> (usize, u64) {
+        ((1..=self.0).find(|&k| counts(k)).unwrap(), 0)
+    }
+
+    fn rest(&mut self) -> u64 {
+        0
+    }
 }
