@@ -1,12 +1,13 @@
 #!/usr/bin/env python3
-"""Holds the definitions of crates/rules against a second model of document 01 and slips 4 and 13 of document 02, on random lists of calls.
+"""Holds the definitions of crates/rules against a second model of document 01 and slips 4, 5 and 13 of document 02, on random lists of calls.
 
     python3 tools/random_runs.py [SEED [RUNS [CALLS]]]        default 1 100 80
 
 The model below is written from their words alone, with hub-by-hub control. Each run is a random plan and a random list of calls, refused ones among them; its
 answers by the model are written as a theorem about the definitions (`answers p (control p) calls` is this list), which the checker computes; and so are those by
 the rule 2 that document 01 had before (`fromRoot`), and the returns of the root's pointer in each call (`callReturns`). Slip 13's bound is held against the model's
-own moves and returns. It works in a temporary folder; it is no part of the gate.
+own moves and returns. For some high requests of each list slip 5's premises, the grant and the limit are looked up in the list here, and by the definitions there
+(`figures` of `AnyMomentRuns`); where all premises hold, the grant is held against the limit. It works in a temporary folder; it is no part of the gate.
 """
 import collections
 import pathlib
@@ -198,10 +199,13 @@ class Hub:
 
 
 def random_run(rng, plan, count):
-    """Calls with their answers, and the returns in each. Half of the lists are loaded: so many requests stand that the line seldom rests."""
+    """Calls with their answers, and the returns in each. Half of the lists are loaded: so many requests stand that the line seldom rests. In half, most nodes
+    reserve at first."""
     hub, run, returns, loaded = Hub(plan), [], [], rng.random() < .5
-    for _ in range(count):
-        call = loaded_call(rng, hub) if loaded and rng.random() < .8 else random_call(rng, hub)
+    first = [('reserve', 0, k, *rng.choice([(1, 512), (2, 512), (1, 4000)])) for k in range(1, plan.nodes + 1) if rng.random() < .8]
+    first = first + [('until', plan.frame)] if rng.random() < .5 else []
+    for i in range(count):
+        call = first[i] if i < len(first) else loaded_call(rng, hub) if loaded and rng.random() < .8 else random_call(rng, hub)
         run.append((call, hub.call(call)))
         returns.append(hub.returns)
     return run, returns
@@ -223,6 +227,50 @@ def farthest(plan, run, returns):
                 assert moves <= most, (first, moves, w)
                 met += plan.hubs > 1 and moves == most
     return met
+
+
+class Wait:
+    """Slip 5 of the high request at place i of a list: each premise, the grant behind it, and the limit. Every word is looked up in the list."""
+
+    def __init__(self, plan, run, i):
+        self.plan, self.run, self.behind = plan, run, len(run) - i - 1
+        _, self.time, self.node, self.bits = run[i][0]
+        f, since = self.time // plan.frame, run[i + 1:]
+        clock = max([0] + [a[1] if a[0] in ('grant', 'rest') else c[1] for c, a in run if a[0] in ('grant', 'rest', 'taken')])
+        grants = [j for j, (_, a) in enumerate(since) if a[0] == 'grant' and a[2] == self.node]
+        self.grant = since[grants[0]][1] if grants else None
+        self.last = (self.grant[1] if grants else clock) // plan.frame
+        own = [c for c, a in since[:grants[0] if grants else None] if a == ('taken',) and c[0] in ('normal', 'high', 'off') and c[2] == self.node]
+        had = [a for _, a in run[:i] if a[0] == 'grant' and a[2] == self.node and a[3] == HIGH and a[1] // plan.frame == f]
+        others = [b + plan.overhead for k, (n, b) in self.reserved(f).items() if k != self.node and n > 0]
+        self.limit = self.time + plan.interrupt + sum(others)
+        self.left = len(had) < self.reserved(f)[self.node][0]
+        self.stands = not own
+        self.unchanged = all(self.reserved(g) == self.reserved(f) for g in range(f, self.last + 1))
+        self.ran = clock > self.limit or run[-1][1] == ('quiet',) and run[-1][0][1] > self.limit
+
+    def reserved(self, f):
+        shares = dict.fromkeys(range(1, self.plan.nodes + 1), (0, 0))
+        for c, a in self.run:
+            if c[0] == 'reserve' and a == ('taken',) and c[1] < f * self.plan.frame:
+                shares[c[2]] = c[3:]
+        return shares
+
+    def holds(self):
+        return self.left and self.stands and self.unchanged and self.ran
+
+    def kept(self):
+        return self.grant is not None and self.grant[3] == HIGH and self.grant[1] <= self.limit
+
+
+def waits(rng, plan, run):
+    """Some of the list's high requests, also as they are if it ends before; few frames, since each is looked at."""
+    found = []
+    for end in (len(run), rng.randint(1, len(run))):
+        cut = run[:end]
+        asked = [i for i, (c, a) in enumerate(cut) if c[0] == 'high' and a == ('taken',)]
+        found += [Wait(plan, cut, i) for i in rng.sample(asked, min(3, len(asked)))]
+    return [w for w in found if w.last - w.time // plan.frame < 20]
 
 
 RESERVES = [(0, 0), (1, 4000), (1, 12000), (2, 512), (2, 4000), (3, 512), (5, 512), (65, 512), (0, 512), (1, 0), (29, 2000), (40, 1000)]
@@ -296,6 +344,7 @@ def as_plan(plan):
 
 HEAD = '''use Prim.Native.Nat.{ℕ}
 use mathlib.Core.Path.{_≡_, refl}
+use mathlib.Core.Bool.{true, false}
 use mathlib.Core.List.{List, [], _∷_}
 use lib.ListN.{getD}
 use Rattle.rules.specs.Plan.{Plan, Port, node, empty, hub}
@@ -307,11 +356,36 @@ use Rattle.rules.specs.Machine.{Hub, perform}
 use Rattle.rules.specs.Run.{freshHub, made, answers}
 use Rattle.rules.specs.Control.{Control}
 use Rattle.rules.specs.Travel.{walkReturns, chooseReturns, callReturns}
+use Rattle.rules.specs.Words.{clockAt, reserved, highGrants}
+use Rattle.rules.specs.AnyMoment.{Grant, none, granted, firstGrant, keptStanding, waitLimit}
+use Rattle.rules.specs.AnyMomentRuns.{Figures, figures}
 
 -- the returns in each call of a list, from a hub on
 unfoldable along : Plan → Hub Control → List Call → List ℕ
 along p h [] = []
 along p h (call ∷ more) = let o = perform p (control p) call h in callReturns p h (o .answer) ∷ along p (o .hub) more
+
+-- what is worked out of a wait, but for the answers
+abbrev untold : Figures → Figures
+untold x = record { told = []; left = x .left; stands = x .stands; unchanged = x .unchanged; run = x .run; grant = x .grant; limit = x .limit }
+'''
+
+
+def wait_theorem(name, i, wait):
+    """`figures` computes the answers too, which stand in `right` already."""
+    def truth(x):
+        return 'true' if x else 'false'
+    grant = 'none' if wait.grant is None else f'granted {"normal" if wait.grant[3] == NORMAL else "high"} {wait.grant[1]}'
+    expected = (f'record {{ told = []; left = {truth(wait.left)}; stands = {truth(wait.stands)}; unchanged = {truth(wait.unchanged)};'
+                f' run = {truth(wait.ran)}; grant = {grant}; limit = {wait.limit}; }}')
+    calls = as_list(as_call(call) for call, _ in wait.run)
+    return f'''
+{name} : untold (figures (record {{
+    plan = p{i}; node = {wait.node}; time = {wait.time}; bits = {wait.bits}; calls = {calls}; behind = {wait.behind};
+    expected = {expected}; }})) ≡ {expected}
+unfolding figures any sum first advance countsIn counts held due sought below lowest walk led nearest chooseBy perform made
+    clockAt reserved highGrants firstGrant keptStanding waitLimit
+{name} = refl
 '''
 
 
@@ -351,6 +425,7 @@ def main():
     rng = random.Random(seed)
     kinds = collections.Counter()
     most = fewer = returned = met = 0
+    slip5 = collections.Counter()
     out = [HEAD]
     for i in range(runs):
         plan = random_plan(rng)
@@ -363,6 +438,11 @@ def main():
         by_root = [root_hub.call(call) for call, _ in run]
         fewer += sum(a != b for (_, a), b in zip(run, by_root))
         out.append(theorem(i, plan, run, returns, by_root))
+        for j, wait in enumerate(waits(rng, plan, run)):
+            assert wait.kept() or not wait.holds(), (plan, run, wait.__dict__)
+            slip5.update(['looked at'] + ['premises hold'] * wait.holds() + ['over a start'] * (wait.holds() and wait.last > wait.time // plan.frame)
+                         + [f'not {name}' for name in ('left', 'stands', 'unchanged', 'ran') if not getattr(wait, name)])
+            out.append(wait_theorem(f'wait{i}-{j}', i, wait))
     root = pathlib.Path(__file__).resolve().parent.parent
     with tempfile.TemporaryDirectory() as d:
         d = pathlib.Path(d)
@@ -376,7 +456,7 @@ def main():
         print(done.stdout[-3000:], done.stderr[-3000:])
         sys.exit(f'random_runs: the definitions and the model differ, or the check failed (seed {seed})')
     print(f'{runs} runs of {n} calls agree; at most {most} moves, {fewer} steps with other moves than by the root, {returned} returns, slip 13 met {met} times;',
-          dict(kinds.most_common()))
+          'slip 5:', dict(slip5.most_common()), dict(kinds.most_common()))
 
 
 if __name__ == '__main__':

@@ -84,7 +84,7 @@ module _ (p : Plan) (k t : ℕ) (whole : List Entry) where
   abbrev pub packetsThen : ℕ
   packetsThen = reserved p k (frameOf p t) whole .packets
 
-  -- the frame of the grant behind the request, or of the clock if none comes
+  -- the frame of the grant to k in the calls `since`, or of the clock if none comes
   abbrev pub lastFrame : List Entry → ℕ
   lastFrame since = frameOf p (waitsTo (firstGrant k since) (clockAt whole))
 
@@ -96,17 +96,17 @@ module _ (p : Plan) (k t : ℕ) (whole : List Entry) where
   abbrev pub farEnough : ℕ
   farEnough = latestGrant + 1
 
-  -- node k puts up a high request at t, at a place with `before` behind it and `since` after it
+  -- node k puts up a high request at t: an accepted high with `before` what came before it, and `since` what came since
   pub record PutUp : Type 0 where
     pub bits : ℕ
     pub since : List Entry
     pub before : List Entry
     pub place : whole ≡ since ++ (record { call = ask high t k bits; answer = taken } ∷ before)
-    -- with fewer than n high grants in that frame
+    -- with fewer than n high grants of k in that frame before
     pub left : length (highGrants p k (frameOf p t) before) < packetsThen
     -- it is kept standing
     pub stands : keptStanding k since ≡ true
-    -- no change comes into force: in each frame from there up to the grant's, every node has what it has reserved in that one
+    -- no change comes into force: in each frame from the request's up to the last one of the wait, every node has reserved what it has in the request's
     pub unchanged : (j f : ℕ) → Within (p .nodes) j → frameOf p t ≤ f → f ≤ lastFrame since
         → reserved p j f whole ≡ reserved p j (frameOf p t) whole
 
