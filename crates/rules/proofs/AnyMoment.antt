@@ -30,7 +30,7 @@ use Rattle.rules.proofs.Quiet.{not-run-to}
 use Rattle.rules.proofs.Fair.{reach, zero-fair}
 use Rattle.rules.proofs.Held.{Held, until-end, at-rest}
 use Rattle.rules.proofs.Waiting.{within-limit, waiting-due}
-use Rattle.rules.proofs.Serving.{Stage, waits, served, keep}
+use Rattle.rules.proofs.Serving.{Progress, waits, served, keep}
 use Rattle.rules.proofs.Undisturbed.{clock, waited, Undisturbed, waits-now, shorter}
 
 module _ (p : Plan) (fig : Figures p) (M : Machine) (follows : Follows p M) (some : 1 ≤ p .nodes) (k t b : ℕ) (earlier : List Call) where
@@ -99,9 +99,9 @@ module _ (p : Plan) (fig : Figures p) (M : Machine) (follows : Follows p M) (som
     held-here (busy e) q = until-end e (omega (arith, clock-here, sound p fig M follows some asked .end-soon e q, fig .interrupt-low))
     held-here resting q = at-rest (omega (arith, clock-here)) refl
 
-    first-stage : Stage p fig M follows k t b node R [] (made p M asked .hub)
+    at-first : Progress p fig M follows k t b node R [] (made p M asked .hub)
     unfolding firstGrant
-    first-stage =
+    at-first =
         let at-place = good p fig M follows some asked in
         let bits = ap (λ (r : Share). r .bits) (force-here k) in
         waits refl
@@ -133,17 +133,17 @@ module _ (p : Plan) (fig : Figures p) (M : Machine) (follows : Follows p M) (som
         ∙ sym (reserved-settled p fig M follows some call (newer ++ asked) j f (omega arith))
         ∙ u .unchanged j f v (omega arith) (omega arith)
 
-    stage : (newer : List Call) → Kept newer → Stage p fig M follows k t b node R (since newer) (made p M (newer ++ asked) .hub)
+    progress : (newer : List Call) → Kept newer → Progress p fig M follows k t b node R (since newer) (made p M (newer ++ asked) .hub)
     unfolding made
-    stage [] u = first-stage
-    stage (call ∷ newer) u =
+    progress [] u = at-first
+    progress (call ∷ newer) u =
         let h = made p M (newer ++ asked) .hub in
         keep p fig M follows k t b node R (since newer) h (good p fig M follows some (newer ++ asked)) (course p M h call) (same-latest call newer u)
-        (u .stands) (stage newer (shorter p fig M follows some k asked call newer (frameOf p t) R u))
+        (u .stands) (progress newer (shorter p fig M follows some k asked call newer (frameOf p t) R u))
 
     -- where k still waits, the list is not run to the limit
     in-time : (newer : List Call) → RunTo (t + waitLimit p k R + 1) (made p M (newer ++ asked) .past)
-        → Stage p fig M follows k t b node R (since newer) (made p M (newer ++ asked) .hub)
+        → Progress p fig M follows k t b node R (since newer) (made p M (newer ++ asked) .hub)
         → (s : ℕ) × (firstGrant k (since newer) ≡ granted high s) × (s ≤ t + waitLimit p k R)
     in-time newer run (served s g l) = (s, g, l)
     in-time newer run (waits n x) =
@@ -195,7 +195,7 @@ module _ (p : Plan) (fig : Figures p) (M : Machine) (follows : Follows p M) (som
         let limit = ap (waitLimit p k) shares in
         let reached =
         subst (λ (x : ℕ). RunTo (t + x + 1) (made p M (newer ++ asked) .past)) limit run in
-        let done = in-time here left newer reached (stage here left newer undisturbed) in
+        let done = in-time here left newer reached (progress here left newer undisturbed) in
         record {
           time = done .0;
           is = subst (λ (l : List Entry). firstGrant k l ≡ granted high (done .0)) behind (done .1);

@@ -1,6 +1,6 @@
 -- The theorems: Agree and Control.Runs (turns agree, moves), AlwaysSound and AlwaysTold (what holds at every place of a run), Stable, Unchanged, Admission,
--- Acceptance, NoTimeLost, Demand3 and ControlDemand3, Saving (the new rule 2 beside the old), Travel and TravelRuns (a round's travel),
--- Slips and TurningSlips. The other files serve them.
+-- Acceptance, NoTimeLost, Demand3 and ControlDemand3, AnyMoment and AnyMomentRuns (a request put up at any moment), Saving (the new rule 2 beside the old),
+-- Travel and TravelRuns (a round's travel), Slips and TurningSlips. The other files serve them.
 pub mod Choices
 pub mod InTurn
 pub mod Follows

@@ -54,15 +54,16 @@ kept-by k call since n e =
     not-true (changes k call taken) q
 
 module _ (p : Plan) (fig : Figures p) (M : Machine) (follows : Follows p M) (k start b : ℕ) (w : Within (p .nodes) k) (R : ℕ → Share) where
+  -- k waits; the high grants of each node since the request are counted beside the hub
   pub record Waits (h : Hub (M .State)) : Type 0 where
     pub since-start : ℕ → ℕ
     pub pointed : Pointed p M follows (h .turn)
     pub waiting : Waiting p k start b R since-start (h .core) (pointed .pointers high)
 
   -- k still waits, or it was granted in time
-  pub data Stage (since : List Entry) (h : Hub (M .State)) : Type 0 where
-    waits : firstGrant k since ≡ none → Waits h → Stage since h
-    served : (s : ℕ) → firstGrant k since ≡ granted high s → s ≤ start + waitLimit p k R → Stage since h
+  pub data Progress (since : List Entry) (h : Hub (M .State)) : Type 0 where
+    waits : firstGrant k since ≡ none → Waits h → Progress since h
+    served : (s : ℕ) → firstGrant k since ≡ granted high s → s ≤ start + waitLimit p k R → Progress since h
 
   module _ (since : List Entry) (h : Hub (M .State)) (ok : Good p fig M follows h) (n : firstGrant k since ≡ none) (x : Waits h) where
     abbrev G : ℕ → ℕ
@@ -84,7 +85,7 @@ module _ (p : Plan) (fig : Figures p) (M : Machine) (follows : Follows p M) (k s
 
     keep-event : (call : Call) → Event call → firstRow (rows p (h .core) call) ≡ accept → Unchanged (time call)
         → keptStanding k (entry call taken ∷ since) ≡ true
-        → Stage (entry call taken ∷ since) (record { core = change call (advance p (time call) (h .core)); turn = h .turn })
+        → Progress (entry call taken ∷ since) (record { core = change call (advance p (time call) (h .core)); turn = h .turn })
     unfolding firstGrant
     keep-event call e r same stands =
         let early = not-behind p (h .core) (reach p start R G + 1) (time call) due-soon (not-due p (h .core) e r) in
@@ -108,7 +109,7 @@ module _ (p : Plan) (fig : Figures p) (M : Machine) (follows : Follows p M) (k s
       counts = waiting-counts p k start b R G (advance p d (h .core)) a here w
 
       -- the turn is given in class high, to k or to a node ahead of it
-      keep-turn : (t : ℕ) → Stage (entry (step t) (turnAt p M d high (advance p d (h .core)) (h .turn) .answer) ∷ since)
+      keep-turn : (t : ℕ) → Progress (entry (step t) (turnAt p M d high (advance p d (h .core)) (h .turn) .answer) ∷ since)
           (turnAt p M d high (advance p d (h .core)) (h .turn) .hub)
       unfolding firstGrant
       keep-turn t =
@@ -142,7 +143,7 @@ module _ (p : Plan) (fig : Figures p) (M : Machine) (follows : Follows p M) (k s
               )
 
           go : Next p k G node
-              → Stage (entry (step t) (turnAt p M d high s (h .turn) .answer) ∷ since) (turnAt p M d high s (h .turn) .hub)
+              → Progress (entry (step t) (turnAt p M d high s (h .turn) .answer) ∷ since) (turnAt p M d high s (h .turn) .hub)
           go (own q) =
               served d (rw (n, eq-eqb node k q)) (omega (arith, soon, within-limit p k start b R G s a here))
           go (nearer q first fair) =
@@ -160,7 +161,7 @@ module _ (p : Plan) (fig : Figures p) (M : Machine) (follows : Follows p M) (k s
       seeks-high = sought-high p (advance p d (h .core)) k w counts
 
     keep-waits : {call : Call} {o : Outcome (M .State)} → Course p M h call o → Unchanged (o .hub .core .clock)
-        → keptStanding k (entry call (o .answer) ∷ since) ≡ true → Stage (entry call (o .answer) ∷ since) (o .hub)
+        → keptStanding k (entry call (o .answer) ∷ since) ≡ true → Progress (entry call (o .answer) ∷ since) (o .hub)
     unfolding firstGrant
     keep-waits (refusal call m e) same stands = waits (rw (n, refused-none k m call)) x
     keep-waits (event call e r) same stands =
@@ -177,7 +178,7 @@ module _ (p : Plan) (fig : Figures p) (M : Machine) (follows : Follows p M) (k s
   -- while k waits, what is reserved in the frame that the call brings the clock to is what was reserved at first
   pub keep : (since : List Entry) (h : Hub (M .State)) → Good p fig M follows h → {call : Call} {o : Outcome (M .State)} → Course p M h call o
       → (firstGrant k since ≡ none → frameOf p (h .core .clock) < frameOf p (o .hub .core .clock) → (j : ℕ) → Within (p .nodes) j → h .core .latest j ≡ R j)
-      → keptStanding k (entry call (o .answer) ∷ since) ≡ true → Stage since h → Stage (entry call (o .answer) ∷ since) (o .hub)
+      → keptStanding k (entry call (o .answer) ∷ since) ≡ true → Progress since h → Progress (entry call (o .answer) ∷ since) (o .hub)
   unfolding firstGrant
   keep since h ok course same stands (waits n x) = keep-waits since h ok n x course (same n) stands
   keep since h ok course same stands (served s g l) = served s (rw g) l

@@ -1,7 +1,8 @@
 -- Request 5 of document 02: the waits worked out in `rules`, on document 01's plan as it is read from its text, so that they are waits on a plan that is taken.
 use mathlib.Core.List.{List, map}
 use Rattle.rules.specs.AnyMomentRuns as rules
-use Rattle.rules.specs.AnyMomentRuns.{Worked, worked-waits}
+use Rattle.rules.specs.AnyMomentRuns.{Worked, full-wait-across, worked-waits}
+use Rattle.rules.specs.AnyMoment.{Served}
 use Rattle.rules.specs.Control.{control}
 use Rattle.plan.specs.Tables.{planOf}
 use Rattle.plan.specs.Reading.{reading}
@@ -25,6 +26,10 @@ onText x =
       expected = x .expected;
     }
 
+-- over a frame's start, on that plan
+abbrev pub across : Worked
+across = onText full-wait-across
+
 abbrev pub read-waits : List Worked
 read-waits = map onText worked-waits
 
@@ -33,3 +38,7 @@ AllTaken = AllRight control (map rowOf worked-waits)
 
 abbrev pub AllAsWorked : Type 0
 AllAsWorked = rules.AllRight read-waits × rules.AllPutUp read-waits
+
+-- what the theorem says of the wait over a frame's start
+abbrev pub AcrossServed : Type 0
+AcrossServed = Served (across .plan) (across .node) (across .time) (rules.whole across) (rules.since across)
