@@ -31,7 +31,7 @@ use Rattle.rules.proofs.Fair.{reach, zero-fair}
 use Rattle.rules.proofs.Held.{Held, until-end, at-rest}
 use Rattle.rules.proofs.Waiting.{within-limit, waiting-due}
 use Rattle.rules.proofs.Serving.{Progress, waits, served, keep}
-use Rattle.rules.proofs.Undisturbed.{clock, waited, Undisturbed, waits-now, shorter}
+use Rattle.rules.proofs.Undisturbed.{clock, Undisturbed, waits-now, shorter}
 
 module _ (p : Plan) (fig : Figures p) (M : Machine) (follows : Follows p M) (some : 1 ≤ p .nodes) (k t b : ℕ) (earlier : List Call) where
   -- the calls up to the request, with it; the entries of the calls behind it; and what is reserved in its frame
@@ -123,7 +123,8 @@ module _ (p : Plan) (fig : Figures p) (M : Machine) (follows : Follows p M) (som
 
     -- while k waits, what comes into force is what was reserved at first
     same-latest : (call : Call) (newer : List Call) → Kept (call ∷ newer) → firstGrant k (since newer) ≡ none
-        → frameOf p (clock p M asked newer) < frameOf p (clock p M asked (call ∷ newer)) → (j : ℕ) → Within (p .nodes) j → made p M (newer ++ asked) .hub .core .latest j ≡ R j
+        → frameOf p (clock p M asked newer) < frameOf p (clock p M asked (call ∷ newer)) → (j : ℕ) → Within (p .nodes) j
+        → made p M (newer ++ asked) .hub .core .latest j ≡ R j
     same-latest call newer u n l j v =
         let f = frameOf p (clock p M asked (call ∷ newer)) in
         let onward = frame-mono p fig (clock p M asked []) (clock p M asked newer) (clock-grows-on p fig M follows some newer asked) in
@@ -181,9 +182,7 @@ module _ (p : Plan) (fig : Figures p) (M : Machine) (follows : Follows p M) (som
     undisturbed : Kept newer
     undisturbed =
         let clock-told = told p fig M follows some (newer ++ asked) .clock in
-        let to : waited p M k asked newer ≡ waitsTo (firstGrant k (r .since)) (clockAt (made p M (newer ++ asked) .past)) =
-        ap₂ (λ (l : List Entry) (x : ℕ). waitsTo (firstGrant k l) x) behind (sym clock-told) in
-        let frame = ap (frameOf p) to in
+        let frame = ap₂ (λ (l : List Entry) (x : ℕ). frameOf p (waitsTo (firstGrant k l) x)) behind (sym clock-told) in
         record {
           stands = subst (λ (l : List Entry). keptStanding k l ≡ true) (sym behind) (r .stands);
           unchanged = λ j f v low up. r .unchanged j f v low (omega arith) ∙ stays-reserved here newer j;
@@ -193,8 +192,7 @@ module _ (p : Plan) (fig : Figures p) (M : Machine) (follows : Follows p M) (som
         → Served p k t (made p M (newer ++ asked) .past) (r .since)
     in-all run =
         let limit = ap (waitLimit p k) shares in
-        let reached =
-        subst (λ (x : ℕ). RunTo (t + x + 1) (made p M (newer ++ asked) .past)) limit run in
+        let reached = subst (λ (x : ℕ). RunTo (t + x + 1) (made p M (newer ++ asked) .past)) limit run in
         let done = in-time here left newer reached (progress here left newer undisturbed) in
         record {
           time = done .0;

@@ -105,7 +105,8 @@ module _ (p : Plan) (fig : Figures p) (M : Machine) (follows : Follows p M) (cal
   demand : Unbroken p k f whole → NextTurns p k f whole (share k .packets) → RunTo ((f + 1) * p .frame) whole → Demand3 p k f whole
   demand unbroken turns ended =
       let at = place p M calls (unbroken .since) (unbroken .before) (unbroken .place) in
-      ⊎-elim (λ done. record { exactly = done .exactly; in-time = done .in-time }) (λ left. absurd (not-run-to p fig M follows some calls ((f + 1) * p .frame) (left .clock) (left .due) ended))
+      ⊎-elim (λ done. record { exactly = done .exactly; in-time = done .in-time })
+      (λ left. absurd (not-run-to p fig M follows some calls ((f + 1) * p .frame) (left .clock) (left .due) ended))
       (at-end unbroken turns (at .earlier) (at .past) (at .newer) (at .split))
 
 pub demand3 : (p : Plan) (fig : Figures p) (M : Machine) → Follows p M → (calls : List Call) → Holds3 p (made p M calls .past)
