@@ -7,6 +7,7 @@ use Rattle.text.specs.Form.{andThen, readSpaced, readClose, readNumbers, readBe
 use Rattle.plan.specs.Kind.{kindOf}
 use Rattle.plan.specs.Tables.{putEmpty, putNode, putHub, putPorts, putRoot, putFigures, planOf}
 use Rattle.plan.specs.Reading.{hubLines, rootLine, interruptLine, overheadLine, frameLine, reading}
+use Rattle.plan.proofs.TakenPlan.{taken-plan}
 use Rattle.rules.specs.Choice.{any, sum, first}
 use Rattle.rules.specs.Core.{advance, countsIn, counts, held, due, sought}
 use Rattle.rules.specs.Control.{below, lowest, walk, led, nearest, chooseBy}
@@ -15,48 +16,25 @@ use Rattle.rules.specs.Run.{made}
 use Rattle.rules.specs.Words.{clockAt, reserved, highGrants}
 use Rattle.rules.specs.AnyMoment.{firstGrant, keptStanding, waitLimit}
 use Rattle.rules.specs.AnyMomentRuns.{figures}
-use Rattle.trials.specs.Text.{bytes, textOf}
-use Rattle.trials.specs.Row.{outcome}
-use Rattle.rules.specs.Drawn.{Drawn}
 use Rattle.rules.proofs.AnyMomentRuns.{ItsRequest, its-request, its-grant}
-use Rattle.plan.proofs.TakenPlan.{taken-plan}
+use Rattle.trials.specs.Text.{bytes, textOf}
 use Rattle.trials.specs.Plans.{plan01}
-use Rattle.trials.specs.AnyMoment.{across, AllTaken, AllAsWorked, AcrossServed}
+use Rattle.trials.specs.AnyMoment.{PlanTaken, AllAsWorked, across, AcrossServed}
 
-pub all-taken : AllTaken
-unfolding
-    bytes textOf outcome
-    before lines digitRun keepDigit wellFormed valueFrom readRun readNumber startsWith isWord andThen readSpaced readClose readNumbers readBehind readForm
-    kindOf reading frameLine overheadLine interruptLine rootLine hubLines putRoot putNode putEmpty putHub putPorts putFigures planOf
-    any sum first advance countsIn counts held due sought below lowest walk led nearest chooseBy perform made
-all-taken = refl
+-- the text is taken, the rows are as worked, and all premises hold of the one over a frame's start
+pub record Computed : Type 0 where
+  pub taken : PlanTaken
+  pub as-worked : AllAsWorked
+  pub premises : ItsRequest across
 
-pub all-as-worked : AllAsWorked
+pub computed : Computed
 unfolding
     bytes textOf figures
     before lines digitRun keepDigit wellFormed valueFrom readRun readNumber startsWith isWord andThen readSpaced readClose readNumbers readBehind readForm
     kindOf reading frameLine overheadLine interruptLine rootLine hubLines putRoot putNode putEmpty putHub putPorts putFigures planOf
     any sum first advance countsIn counts held due sought below lowest walk led nearest chooseBy perform made
     clockAt reserved highGrants firstGrant keptStanding waitLimit
-all-as-worked = (refl, refl)
-
--- all premises hold of it
-premises : ItsRequest across
-unfolding
-    bytes textOf figures
-    before lines digitRun keepDigit wellFormed valueFrom readRun readNumber startsWith isWord andThen readSpaced readClose readNumbers readBehind readForm
-    kindOf reading frameLine overheadLine interruptLine rootLine hubLines putRoot putNode putEmpty putHub putPorts putFigures planOf
-    any sum first advance countsIn counts held due sought below lowest walk led nearest chooseBy perform made
-    clockAt reserved highGrants firstGrant keptStanding waitLimit
-premises = its-request across refl refl refl refl refl
-
--- the text ends at byte 91, and its next line would be line 12
-drawn : Drawn (across .plan)
-unfolding
-    bytes textOf
-    before lines digitRun keepDigit wellFormed valueFrom readRun readNumber startsWith isWord andThen readSpaced readClose readNumbers readBehind readForm
-    kindOf reading frameLine overheadLine interruptLine rootLine hubLines putRoot putNode putEmpty putHub putPorts putFigures
-drawn = taken-plan plan01 4 2 91 12 refl .plan
+computed = record { taken = refl; as-worked = (refl, refl); premises = its-request across refl refl refl refl refl }
 
 pub across-served : AcrossServed
-across-served = its-grant across drawn premises
+across-served = its-grant across (taken-plan plan01 4 2 91 12 (computed .taken) .plan) (computed .premises)
