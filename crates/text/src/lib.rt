@@ -87,7 +87,8 @@ pub fn next_line(text: &[u8], c: Cursor) -> Next
     }
 }
 
-fn next_number(n: usize) -> usize
+// The number of the line behind line n.
+pub fn next_number(n: usize) -> usize
     ensures { λ r. ⌜ r ≡ nextNumber n ⌝ }
 {
     if n < LAST { n + 1 } else { LAST }
