@@ -75,7 +75,7 @@ fn in_range(x: u64, low: u64, high: u64, line: usize, next: Cursor) -> Figure
 fn figure_at(text: &[u8], c: Cursor, word: &[u8], low: u64, high: u64) -> Figure
     ensures { λ r. ⌜ r ≡ figureAt (now (text .entry)) c (now (word .entry)) low high ⌝ }
 {
-    match text::next_line(text, c) {
+    match reader::line_at(text, c.at, c.number) {
         Next::Line {
             start,
             end,
@@ -107,7 +107,7 @@ fn figure_at(text: &[u8], c: Cursor, word: &[u8], low: u64, high: u64) -> Figure
 fn root_at(text: &[u8], c: Cursor) -> Part
     ensures { λ r. ⌜ r ≡ rootAt (now (text .entry)) c ⌝ }
 {
-    match text::next_line(text, c) {
+    match reader::line_at(text, c.at, c.number) {
         Next::Line {
             start,
             end,

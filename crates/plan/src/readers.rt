@@ -5,7 +5,6 @@ use crate::Part;
 use crate::Place;
 use crate::Plan;
 use crate::cells;
-use text::Cursor;
 use text::Next;
 ghost use mathlib.Core.Path.{_≡_};
 ghost use Prim.Native.Nat.{_≤_};
@@ -147,11 +146,7 @@ pub(crate) fn hub_reader(
             number: 1,
         };
     }
-    let c = Cursor {
-        at: x.at,
-        number: x.number,
-    };
-    match text::next_line(text, c) {
+    match reader::line_at(text, x.at, x.number) {
         Next::Line {
             start,
             end,

@@ -5,8 +5,8 @@ use borrow.Author.Needs.{needs}
 use Rattle.plan.proofs.figure_at.Statement.{statement}
 use Rattle.plan.proofs.figure_at.Tie as tie
 
-next-line-requires : tie.Need-next-line-requires
-next-line-requires c κs = search needs
+line-at-requires : tie.Need-line-at-requires
+line-at-requires c κs = search needs
 
 enum-known-start : tie.Need-enum-known-start
 enum-known-start c = search needs
@@ -34,31 +34,31 @@ returns c =
     let a = c .before .before .before .before .before .before .before .before .before .before .before .args in
     let w = c .before .before .before .before .before .before .start .given in
     let v = c .before .before .x .given in
-    c .in-range .ensures ∙ figure-numbers (a .text .now) (a .c) (a .word .now) (a .low) (a .high) (w .0 .0) (w .0 .1 .0) (w .0 .1 .1 .0) (w .0 .1 .1 .1 .0) (sym (c .before .before .before .before .before .before .before .before .next-line .ensures) ∙ w .1) (v .0 .0) (v .0 .1 .0) (v .0 .1 .1 .0) (v .0 .1 .1 .1 .0) (sym (c .before .before .before .before .form-at .ensures) ∙ v .1)
+    c .in-range .ensures ∙ figure-numbers (a .text .now) (a .c) (a .word .now) (a .low) (a .high) (w .0 .0) (w .0 .1 .0) (w .0 .1 .1 .0) (w .0 .1 .1 .1 .0) (sym (c .before .before .before .before .before .before .before .before .line-at .ensures) ∙ w .1) (v .0 .0) (v .0 .1 .0) (v .0 .1 .1 .0) (v .0 .1 .1 .1 .0) (sym (c .before .before .before .before .form-at .ensures) ∙ v .1)
 
 returns-2 : tie.Need-returns-2
 returns-2 c =
     let a = c .before .before .before .before .before .before .before .before .before .args in
     let w = c .before .before .before .before .start .given in
-    figure-none (a .text .now) (a .c) (a .word .now) (a .low) (a .high) (w .0 .0) (w .0 .1 .0) (w .0 .1 .1 .0) (w .0 .1 .1 .1 .0) (sym (c .before .before .before .before .before .before .next-line .ensures) ∙ w .1) (sym (c .before .before .form-at .ensures) ∙ c .enum-told .given .1)
+    figure-none (a .text .now) (a .c) (a .word .now) (a .low) (a .high) (w .0 .0) (w .0 .1 .0) (w .0 .1 .1 .0) (w .0 .1 .1 .1 .0) (sym (c .before .before .before .before .before .before .line-at .ensures) ∙ w .1) (sym (c .before .before .form-at .ensures) ∙ c .enum-told .given .1)
 
 returns-3 : tie.Need-returns-3
 returns-3 c =
     let a = c .before .before .before .before .before .before .args in
     let w = c .before .number .given in
-    figure-unended (a .text .now) (a .c) (a .word .now) (a .low) (a .high) (w .0 .0) (w .0 .1 .0) (w .0 .1 .1 .0) (sym (c .before .before .before .next-line .ensures) ∙ w .1)
+    figure-unended (a .text .now) (a .c) (a .word .now) (a .low) (a .high) (w .0 .0) (w .0 .1 .0) (w .0 .1 .1 .0) (sym (c .before .before .before .line-at .ensures) ∙ w .1)
 
 returns-4 : tie.Need-returns-4
 returns-4 c =
     let a = c .before .before .before .before .before .before .args in
     let w = c .before .number2 .given in
-    figure-done (a .text .now) (a .c) (a .word .now) (a .low) (a .high) (w .0 .0) (sym (c .before .before .before .next-line .ensures) ∙ w .1)
+    figure-done (a .text .now) (a .c) (a .word .now) (a .low) (a .high) (w .0 .0) (sym (c .before .before .before .line-at .ensures) ∙ w .1)
 
 pub figure-at-spec : {M : Type 1} → statement M
 figure-at-spec =
     tie.close
     (tie.spec
-    next-line-requires
+    line-at-requires
     enum-known-start
     form-at-requires
     enum-known-x

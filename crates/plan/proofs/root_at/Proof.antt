@@ -6,8 +6,8 @@ use borrow.Author.Needs.{needs}
 use Rattle.plan.proofs.root_at.Statement.{statement}
 use Rattle.plan.proofs.root_at.Tie as tie
 
-next-line-requires : tie.Need-next-line-requires
-next-line-requires c κs = search needs
+line-at-requires : tie.Need-line-at-requires
+line-at-requires c κs = search needs
 
 enum-known-start : tie.Need-enum-known-start
 enum-known-start c = search needs
@@ -22,7 +22,7 @@ returns : tie.Need-returns
 returns c =
     let a = c .before .before .before .before .before .before .before .before .args in
     let w = c .before .before .before .before .start .given in
-    root-hub (a .text .now) (a .c) (w .0 .0) (w .0 .1 .0) (w .0 .1 .1 .0) (w .0 .1 .1 .1 .0) (sym (c .before .before .before .before .before .before .next-line .ensures) ∙ w .1) (sym (c .before .before .kind-of .ensures) ∙ c .enum-told .given .1)
+    root-hub (a .text .now) (a .c) (w .0 .0) (w .0 .1 .0) (w .0 .1 .1 .0) (w .0 .1 .1 .1 .0) (sym (c .before .before .before .before .before .before .line-at .ensures) ∙ w .1) (sym (c .before .before .kind-of .ensures) ∙ c .enum-told .given .1)
 
 enum-known-number : tie.Need-enum-known-number
 enum-known-number c = search needs
@@ -35,25 +35,25 @@ returns-2 c =
     let a = c .before .before .before .before .before .before .before .args in
     let w = c .before .before .before .start .given in
     let k = c .before .kind-of .result in
-    root-other (a .text .now) (a .c) (w .0 .0) (w .0 .1 .0) (w .0 .1 .1 .0) (w .0 .1 .1 .1 .0) (sym (c .before .before .before .before .before .next-line .ensures) ∙ w .1) k (sym (c .before .kind-of .ensures)) (not-hub k (c .match2 .keys2))
+    root-other (a .text .now) (a .c) (w .0 .0) (w .0 .1 .0) (w .0 .1 .1 .0) (w .0 .1 .1 .1 .0) (sym (c .before .before .before .before .before .line-at .ensures) ∙ w .1) k (sym (c .before .kind-of .ensures)) (not-hub k (c .match2 .keys2))
 
 returns-3 : tie.Need-returns-3
 returns-3 c =
     let a = c .before .before .before .before .before .args in
     let w = c .before .number .given in
-    root-unended (a .text .now) (a .c) (w .0 .0) (w .0 .1 .0) (w .0 .1 .1 .0) (sym (c .before .before .before .next-line .ensures) ∙ w .1)
+    root-unended (a .text .now) (a .c) (w .0 .0) (w .0 .1 .0) (w .0 .1 .1 .0) (sym (c .before .before .before .line-at .ensures) ∙ w .1)
 
 returns-4 : tie.Need-returns-4
 returns-4 c =
     let a = c .before .before .before .before .before .args in
     let w = c .before .number2 .given in
-    root-done (a .text .now) (a .c) (w .0 .0) (sym (c .before .before .before .next-line .ensures) ∙ w .1)
+    root-done (a .text .now) (a .c) (w .0 .0) (sym (c .before .before .before .line-at .ensures) ∙ w .1)
 
 pub root-at-spec : {M : Type 1} → statement M
 root-at-spec =
     tie.close
     (tie.spec
-    next-line-requires
+    line-at-requires
     enum-known-start
     kind-of-requires
     enum-told

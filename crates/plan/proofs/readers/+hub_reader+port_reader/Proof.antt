@@ -22,7 +22,7 @@ use Rattle.plan.proofs.readers.close_hub.Reads as close-hub-reads
 use Rattle.plan.proofs.readers.empty_port.Reads as empty-port-reads
 use Rattle.plan.proofs.readers.kind_of.Reads as kind-of-reads
 use Rattle.plan.proofs.readers.node_port.Reads as node-port-reads
-use Rattle.text.proofs.next_line.Reads as next-line-reads
+use Rattle.reader.proofs.line_at.Reads as line-at-reads
 use Rattle.plan.proofs.readers.+hub_reader+port_reader.{statement}
 use Rattle.plan.proofs.readers.+hub_reader+port_reader.Tie.{close}
 
@@ -50,7 +50,7 @@ port-reader-below t =
 
 -- what the functions that each one calls ask and ensure
 abbrev hub-met : ℕ → hub-reader-lts.Claims
-hub-met t = (next-line-reads.Asked, next-line-reads.Learnt, kind-of-reads.Asked, kind-of-reads.Learnt, close-hub-reads.Asked, close-hub-reads.Learnt, port-reader-below t, port-reader.Post, hub-reader-below t, hub-reader.Post)
+hub-met t = (line-at-reads.Asked, line-at-reads.Learnt, kind-of-reads.Asked, kind-of-reads.Learnt, close-hub-reads.Asked, close-hub-reads.Learnt, port-reader-below t, port-reader.Post, hub-reader-below t, hub-reader.Post)
 
 abbrev port-met : ℕ → port-reader-lts.Claims
 port-met t = (node-port-reads.Asked, node-port-reads.Learnt, empty-port-reads.Asked, empty-port-reads.Learnt, put-hub-reads.Asked, put-hub-reads.Learnt, hub-reader-below t, hub-reader.Post)
@@ -60,8 +60,8 @@ hub-reader-returns t c =
     let e = none-left _ _ _ _ _ _ _ (c .if1 .taken) in
     (sym (ap (λ (d : Answered). d .part) e), sym (ap (λ (d : Answered). d .tables) e))
 
-hub-reader-next-line-requires : (t : ℕ) → hub-reader-lts.Need-next-line-requires (hub-met t) (hub-reader-at t) hub-reader.Post
-hub-reader-next-line-requires t c κs = search needs
+hub-reader-line-at-requires : (t : ℕ) → hub-reader-lts.Need-line-at-requires (hub-met t) (hub-reader-at t) hub-reader.Post
+hub-reader-line-at-requires t c κs = search needs
 
 hub-reader-enum-known-start : (t : ℕ) → hub-reader-lts.Need-enum-known-start (hub-met t) (hub-reader-at t) hub-reader.Post
 hub-reader-enum-known-start t c = search needs
@@ -122,7 +122,7 @@ hub-reader-returns-3 t c =
     let w = c .before .before .before .before .before .before .before .before .before .before .start .given in
     let k = c .before .before .before .before .before .before .before .before .kind-of .result in
     let z = c .before .before .before .z .given in
-    let e = port-read (a .text .now) (a .left) (a .x) (a .g) (a .q) (a .levels) (a .s .now) (c .before .before .before .before .before .before .before .before .before .before .before .before .before .if1 .left) (w .0 .0) (w .0 .1 .0) (w .0 .1 .1 .0) (w .0 .1 .1 .1 .0) (sym (c .before .before .before .before .before .before .before .before .before .before .before .before .next-line .ensures) ∙ w .1) k (sym (c .before .before .before .before .before .before .before .before .kind-of .ensures)) (not-close k (c .before .before .before .before .before .before .before .match2 .keys2)) (z .0 .0) (sym (c .before .before .before .before .before .port-reader .ensures .0) ∙ z .1) in
+    let e = port-read (a .text .now) (a .left) (a .x) (a .g) (a .q) (a .levels) (a .s .now) (c .before .before .before .before .before .before .before .before .before .before .before .before .before .if1 .left) (w .0 .0) (w .0 .1 .0) (w .0 .1 .1 .0) (w .0 .1 .1 .1 .0) (sym (c .before .before .before .before .before .before .before .before .before .before .before .before .line-at .ensures) ∙ w .1) k (sym (c .before .before .before .before .before .before .before .before .kind-of .ensures)) (not-close k (c .before .before .before .before .before .before .before .match2 .keys2)) (z .0 .0) (sym (c .before .before .before .before .before .port-reader .ensures .0) ∙ z .1) in
     let f = c .before .before .before .before .before .port-reader .ensures .1 in (
       c .hub-reader .ensures .0 ∙ ap (λ (u : List ℕ). hubReader (a .text .now) (a .left - 1) (z .0 .0) (a .g) (a .q + 1) (a .levels) u .part) f ∙ sym (ap (λ (d : Answered). d .part) e),
       c .hub-reader .ensures .1 ∙ ap (λ (u : List ℕ). hubReader (a .text .now) (a .left - 1) (z .0 .0) (a .g) (a .q + 1) (a .levels) u .tables) f ∙ sym (ap (λ (d : Answered). d .tables) e),
@@ -134,7 +134,7 @@ hub-reader-returns-4 t c =
     let w = c .before .before .before .before .before .before .before .before .start .given in
     let k = c .before .before .before .before .before .before .kind-of .result in
     let z = c .before .line .given in
-    let e = port-stops (a .text .now) (a .left) (a .x) (a .g) (a .q) (a .levels) (a .s .now) (c .before .before .before .before .before .before .before .before .before .before .before .if1 .left) (w .0 .0) (w .0 .1 .0) (w .0 .1 .1 .0) (w .0 .1 .1 .1 .0) (sym (c .before .before .before .before .before .before .before .before .before .before .next-line .ensures) ∙ w .1) k (sym (c .before .before .before .before .before .before .kind-of .ensures)) (not-close k (c .before .before .before .before .before .match2 .keys2)) (z .0 .0) (z .0 .1 .0) (sym (c .before .before .before .port-reader .ensures .0) ∙ z .1) in
+    let e = port-stops (a .text .now) (a .left) (a .x) (a .g) (a .q) (a .levels) (a .s .now) (c .before .before .before .before .before .before .before .before .before .before .before .if1 .left) (w .0 .0) (w .0 .1 .0) (w .0 .1 .1 .0) (w .0 .1 .1 .1 .0) (sym (c .before .before .before .before .before .before .before .before .before .before .line-at .ensures) ∙ w .1) k (sym (c .before .before .before .before .before .before .kind-of .ensures)) (not-close k (c .before .before .before .before .before .match2 .keys2)) (z .0 .0) (z .0 .1 .0) (sym (c .before .before .before .port-reader .ensures .0) ∙ z .1) in
     let f = c .before .before .before .port-reader .ensures in
     (sym (z .1) ∙ f .0 ∙ sym (ap (λ (d : Answered). d .part) e), f .1 ∙ sym (ap (λ (d : Answered). d .tables) e))
 
@@ -142,14 +142,14 @@ hub-reader-returns-5 : (t : ℕ) → hub-reader-lts.Need-returns-5 (hub-met t) (
 hub-reader-returns-5 t c =
     let a = c .before .before .before .before .before .before .args in
     let w = c .before .number .given in
-    let e = unended-stops (a .text .now) (a .left) (a .x) (a .g) (a .q) (a .levels) (a .s .now) (c .before .before .before .before .if1 .left) (w .0 .0) (w .0 .1 .0) (w .0 .1 .1 .0) (sym (c .before .before .before .next-line .ensures) ∙ w .1) in
+    let e = unended-stops (a .text .now) (a .left) (a .x) (a .g) (a .q) (a .levels) (a .s .now) (c .before .before .before .before .if1 .left) (w .0 .0) (w .0 .1 .0) (w .0 .1 .1 .0) (sym (c .before .before .before .line-at .ensures) ∙ w .1) in
     (sym (ap (λ (d : Answered). d .part) e), sym (ap (λ (d : Answered). d .tables) e))
 
 hub-reader-returns-6 : (t : ℕ) → hub-reader-lts.Need-returns-6 (hub-met t) (hub-reader-at t) hub-reader.Post
 hub-reader-returns-6 t c =
     let a = c .before .before .before .before .before .before .args in
     let w = c .before .number2 .given in
-    let e = done-stops (a .text .now) (a .left) (a .x) (a .g) (a .q) (a .levels) (a .s .now) (c .before .before .before .before .if1 .left) (w .0 .0) (sym (c .before .before .before .next-line .ensures) ∙ w .1) in
+    let e = done-stops (a .text .now) (a .left) (a .x) (a .g) (a .q) (a .levels) (a .s .now) (c .before .before .before .before .if1 .left) (w .0 .0) (sym (c .before .before .before .line-at .ensures) ∙ w .1) in
     (sym (ap (λ (d : Answered). d .part) e), sym (ap (λ (d : Answered). d .tables) e))
 
 port-reader-enum-told : (t : ℕ) → port-reader-lts.Need-enum-told (port-met t) (port-reader-at t) port-reader.Post
@@ -253,7 +253,7 @@ pub +hub-reader+port-reader-spec : {M : Type 1} → statement M
     (hub-reader-at t)
     hub-reader.Post
     (hub-reader-returns t)
-    (hub-reader-next-line-requires t)
+    (hub-reader-line-at-requires t)
     (hub-reader-enum-known-start t)
     (hub-reader-kind-of-requires t)
     (hub-reader-enum-told t)
