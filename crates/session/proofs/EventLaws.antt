@@ -1,6 +1,6 @@
 -- The run of an event line and of all of them, by what each call answered.
-use Prim.Native.Nat.{ℕ, suc, _-_, _<_}
-use mathlib.Core.Path.{_≡_, refl, sym, ap, _∙_}
+use Prim.Native.Nat.{ℕ, _-_}
+use mathlib.Core.Path.{_≡_, refl, sym, _∙_}
 use mathlib.Core.Bool.{Bool}
 use mathlib.Core.List.{List, [], _∷_}
 use mathlib.Core.Logic.{_⊎_, ⊎-elim}
@@ -10,23 +10,19 @@ use types.Run.{OneOf}
 use denote.Enum.Declared.{tagOf}
 use borrow.Author.Tests.{eq-eqb, ne-eqb}
 use Rattle.rules.specs.Call.{Call}
-use Rattle.text.specs.Part.{part}
-use Rattle.text.specs.Line.{nextLine}
-use Rattle.text.specs.declared.Cursor.{Cursor}
-use Rattle.text.specs.declared.Next.{Next}
-use Rattle.text.specs.declared.Next.the-variants.{Line, Unended, Done}
 use Rattle.writer.specs.Write.{putAnswer, passBuffer}
 use Rattle.writer.specs.declared.Put.{Put}
 use Rattle.writer.specs.declared.Put.the-variants.{Behind, Short}
 use Rattle.log.specs.FirstLine.{refusedLine}
-use Rattle.events.specs.Event.{eventOf, callOf}
+use Rattle.events.specs.Event.{callOf}
 use Rattle.events.specs.declared.Event.{Event}
 use Rattle.events.specs.declared.Event.the-variants.{Normal, High, Off, Reserve, Until, NoEvent}
 use Rattle.events.proofs.Event.{the-type}
 use Rattle.state.specs.Calls.{EventPromise}
-use Rattle.logbook.specs.Cells.{goingOn, numberBy, cellsBy, stepsBy, budgetBy, beforeBy, callBy, eventLineBy, nextBy, eventsBy}
+use Rattle.logbook.specs.Cells.{numberBy, cellsBy, stepsBy, budgetBy, beforeBy, callBy, eventLineBy}
 use Rattle.session.specs.Times.{timeOf}
-use Rattle.session.proofs.Ran.{Ran, ran-same, onto, onward, halted}
+use Rattle.session.specs.Turn.{Ran}
+use Rattle.session.proofs.Ran.{ran-same, onward, halted}
 
 module _ (P : List ℕ) where
   -- the event that a call makes
@@ -84,44 +80,3 @@ module _ (write : Bool) (P : List ℕ) where
     pub line-short : put ≡ Short → Ran (eventLineBy write P number call s b at) Short s′ b′
     unfolding eventLineBy
     line-short e = halted (callBy write P number call) (beforeBy write P call s b at) before e
-
-  -- the lines from a cursor on, by the line there
-  module _ (text : List ℕ) (left : ℕ) (c : Cursor) (s b : List ℕ) (at : ℕ) where
-    pub no-turn : left ≡ 0 → Ran (eventsBy write P text left c s b at) (Behind at) s b
-    unfolding eventsBy
-    no-turn e = ran-same (ap (λ (n : ℕ). eventsBy write P text n c s b at) e) (refl, (refl, refl))
-
-    module _ (more : 0 < left) {n : Next} (found : n ≡ nextLine text c) where
-      turn : eventsBy write P text left c s b at ≡ nextBy write P text (eventsBy write P text (left - 1)) n s b at
-      unfolding eventsBy
-      turn =
-          let e : left ≡ suc (left - 1) = omega arith in
-          ap (λ (n : ℕ). eventsBy write P text n c s b at) e ∙ ap (λ (x : Next). nextBy write P text (eventsBy write P text (left - 1)) x s b at) (sym found)
-
-      pub all-done : (number : ℕ) → n ≡ Done number → Ran (eventsBy write P text left c s b at) (Behind at) s b
-      all-done number e =
-          ran-same (turn ∙ ap (λ (x : Next). nextBy write P text (eventsBy write P text (left - 1)) x s b at) e) (refl, (refl, refl))
-
-      pub last-unended : (start end number : ℕ) → n ≡ Unended start end number
-          → {put : Put} {b′ : List ℕ} → put ≡ putAnswer b at (refusedLine number 1) → b′ ≡ passBuffer write b at (refusedLine number 1)
-          → Ran (eventsBy write P text left c s b at) put s b′
-      last-unended start end number e p w =
-          ran-same (turn ∙ ap (λ (x : Next). nextBy write P text (eventsBy write P text (left - 1)) x s b at) e) (p, (refl, w))
-
-      module _ (start end number : ℕ) (next : Cursor) (e : n ≡ Line start end number next)
-          {event : Event} (h : event ≡ eventOf (part text start end))
-          {put : Put} {s′ b′ : List ℕ} (went : Ran (eventLineBy write P number (callOf event) s b at) put s′ b′) where
-        went-same : Ran (eventLineBy write P number (callOf (eventOf (part text start end))) s b at) put s′ b′
-        went-same = rw (← h) went
-
-        turned : eventsBy write P text left c s b at ≡ goingOn (eventsBy write P text (left - 1) next) (eventLineBy write P number (callOf (eventOf (part text start end))) s b at)
-        turned = turn ∙ ap (λ (x : Next). nextBy write P text (eventsBy write P text (left - 1)) x s b at) e
-
-        pub turn-short : put ≡ Short → Ran (eventsBy write P text left c s b at) Short s′ b′
-        turn-short q =
-            ran-same turned (halted (eventsBy write P text (left - 1) next) (eventLineBy write P number (callOf (eventOf (part text start end))) s b at) went-same q)
-
-        pub turn-on : (z : ℕ) → put ≡ Behind z → eventsBy write P text left c s b at ≡ eventsBy write P text (left - 1) next s′ b′ z
-        turn-on z q =
-            turned
-            ∙ onto (eventsBy write P text (left - 1) next) (eventLineBy write P number (callOf (eventOf (part text start end))) s b at) went-same z q

@@ -1,14 +1,11 @@
--- A run that has left this answer, these cells and this buffer; and how one goes on behind another.
+-- How one run goes on behind another.
 use Prim.Native.Nat.{ℕ}
-use mathlib.Core.Path.{_≡_, refl, sym, ap, _∙_}
+use mathlib.Core.Path.{_≡_, refl, sym, _∙_}
 use mathlib.Core.List.{List}
 use Rattle.writer.specs.declared.Put.{Put}
 use Rattle.writer.specs.declared.Put.the-variants.{Behind, Short}
 use Rattle.logbook.specs.Cells.{Run, goingOn}
-
--- what a function with a run's contract shows
-abbrev pub Ran : Run → Put → List ℕ → List ℕ → Type 0
-Ran x r s b = (r ≡ x .put) × ((s ≡ x .cells) × (b ≡ x .buffer))
+use Rattle.session.specs.Turn.{Ran}
 
 pub ran-same : {x y : Run} {r : Put} {s b : List ℕ} → x ≡ y → Ran y r s b → Ran x r s b
 ran-same {x} {y} {r} {s} {b} e w = rw e w

@@ -12,7 +12,8 @@ use Rattle.lines.specs.Lines.{stepLine}
 use Rattle.state.specs.declared.Step.{Step}
 use Rattle.state.specs.Calls.{StepPromise}
 use Rattle.logbook.specs.Cells.{Run, line, goingOn, more, stepsBy}
-use Rattle.session.proofs.Ran.{Ran, ran-same, onward, halted}
+use Rattle.session.specs.Turn.{Ran}
+use Rattle.session.proofs.Ran.{ran-same, onward, halted}
 
 module _ (write : Bool) (P : List ℕ) (left t : ℕ) (s b : List ℕ) (at : ℕ) where
   pub no-steps : left ≡ 0 → Ran (stepsBy write P left t s b at) (Behind at) s b

@@ -14,7 +14,8 @@ use Rattle.log.specs.Handed.{handed}
 use Rattle.log.specs.FirstLine.{firstLine}
 use Rattle.state.specs.Fresh.{freshCells}
 use Rattle.logbook.specs.Cells.{line, goingOn, eventsBy, behindPlan, passBy}
-use Rattle.session.proofs.Ran.{Ran, ran-same, onward, halted}
+use Rattle.session.specs.Turn.{Ran}
+use Rattle.session.proofs.Ran.{ran-same, onward, halted}
 
 module _ (write : Bool) (text : List ℕ) (answer : Answer) (P s b : List ℕ) (at : ℕ) where
   pub plan-refused : (l n : ℕ) → answer ≡ Refused l n → Ran (behindPlan write text answer P s b at) (Behind at) s b

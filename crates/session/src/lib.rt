@@ -5,8 +5,6 @@ use plan::Answer;
 use plan::Plan;
 use state::Cascade;
 use state::Step;
-use text::Cursor;
-use text::Next;
 use writer::Put;
 ghost use mathlib.Core.Path.{_≡_};
 ghost use Prim.Native.Nat.{suc, _+_, _*_};
@@ -18,8 +16,16 @@ ghost use Rattle.events.specs.Event.{callOf};
 ghost use Rattle.log.specs.Handed.{handed};
 ghost use Rattle.logbook.specs.Cells.{more, stepsBy, numberBy, cellsBy, budgetBy, beforeBy, callBy, eventLineBy, eventsBy, behindPlan, passBy, planLeft, cellsLeft};
 ghost use Rattle.session.specs.Times.{timeOf};
+ghost use Rattle.session.specs.Turn.{Ran, lineBy, wentBy, Turned};
 ghost use Rattle.logbook.specs.Log.{logBytes};
 ghost use Rattle.writer.specs.Write.{fits, putAnswer, putBuffer};
+
+// How a run goes on behind a line: what became of what it wrote, the place for the next line's, and whether a line may follow.
+pub struct Went {
+    pub put: Put,
+    pub at: usize,
+    pub more: bool,
+}
 
 // Whether more steps may follow a step's answer.
 fn goes_on(a: Step) -> bool
@@ -171,54 +177,87 @@ fn event_line(
     }
 }
 
-// The event lines from a cursor on. `left` is more than there are lines, so the loop ends at the text's end.
-fn events(
-    text: &[u8],
+// One line that the reader handed out: an event's, the last one, whose LF is missing, or nothing is left.
+fn line_of(
     p: &Plan,
     s: &mut Cascade,
-    c: Cursor,
+    bytes: &[u8],
+    number: usize,
+    ended: bool,
     write: bool,
     buffer: &mut [u8],
     at: usize,
 ) -> Put
-    ensures { λ r. ⌜ r ≡ eventsBy write (now (p .entry)) (now (text .entry)) (suc (length (now (text .entry)))) c (now (s .entry)) (now (buffer .entry)) at .put ⌝ }
-    ensures { λ r. ⌜ now (s .exit) ≡ eventsBy write (now (p .entry)) (now (text .entry)) (suc (length (now (text .entry)))) c (now (s .entry)) (now (buffer .entry)) at .cells ⌝ }
-    ensures { λ r. ⌜ now (buffer .exit) ≡ eventsBy write (now (p .entry)) (now (text .entry)) (suc (length (now (text .entry)))) c (now (s .entry)) (now (buffer .entry)) at .buffer ⌝ }
+    ensures { λ r. ⌜ Ran (lineBy write (now (p .entry)) (now (bytes .entry)) number ended (now (s .entry)) (now (buffer .entry)) at) r (now (s .exit)) (now (buffer .exit)) ⌝ }
 {
-    let mut left = text.len() + 1;
-    let mut place = c.at;
-    let mut line = c.number;
-    let mut z = at;
-    while 0 < left {
-        let here = Cursor {
-            at: place,
-            number: line,
-        };
-        match text::next_line(text, here) {
-            Next::Line {
-                start,
-                end,
-                number,
-                next,
-            } => {
-                let e = events::event_at(text, start, end);
-                match event_line(p, s, number, e, write, buffer, z) {
-                    Put::Behind(y) => z = y,
-                    Put::Short => return Put::Short,
-                }
-                place = next.at;
-                line = next.number;
-            }
-            Next::Unended {
-                start: _,
-                end: _,
-                number,
-            } => return lines::refused_line(number as u64, 1, write, buffer, z),
-            Next::Done { number: _ } => return Put::Behind(z),
-        }
-        left -= 1;
+    if ended {
+        let e = events::event_at(bytes, 0, bytes.len());
+        return event_line(p, s, number, e, write, buffer, at);
     }
-    Put::Behind(z)
+    if bytes.len() == 0 {
+        return Put::Behind(at);
+    }
+    lines::refused_line(number as u64, 1, write, buffer, at)
+}
+
+// How the run goes on behind a line: the place for the next, and whether there may be one.
+fn behind_line(ended: bool, put: Put) -> Went
+    ensures { λ r. ⌜ r ≡ wentBy ended put ⌝ }
+{
+    match put {
+        Put::Behind(z) => Went {
+            put,
+            at: z,
+            more: ended,
+        },
+        Put::Short => Went {
+            put,
+            at: 0,
+            more: false,
+        },
+    }
+}
+
+// One turn of the run: a line, and how it goes on.
+fn turn(
+    p: &Plan,
+    s: &mut Cascade,
+    bytes: &[u8],
+    number: usize,
+    ended: bool,
+    write: bool,
+    buffer: &mut [u8],
+    at: usize,
+) -> Went
+    ensures { λ r. ⌜ Turned ended (lineBy write (now (p .entry)) (now (bytes .entry)) number ended (now (s .entry)) (now (buffer .entry)) at) r (now (s .exit)) (now (buffer .exit)) ⌝ }
+{
+    let put = line_of(p, s, bytes, number, ended, write, buffer, at);
+    behind_line(ended, put)
+}
+
+// The event lines from a place on, handed out one by one by a reader that holds the text.
+fn events(
+    text: &[u8],
+    place: usize,
+    line: usize,
+    p: &Plan,
+    s: &mut Cascade,
+    write: bool,
+    buffer: &mut [u8],
+    at: usize,
+) -> Put
+    ensures { λ r. ⌜ Ran (eventsBy write (now (p .entry)) (now (text .entry)) (suc (length (now (text .entry)))) (record { at = place; number = line }) (now (s .entry)) (now (buffer .entry)) at) r (now (s .exit)) (now (buffer .exit)) ⌝ }
+{
+    let mut r = reader::new(text, place, line);
+    let mut z = at;
+    loop {
+        let l = reader::next(&mut r);
+        let w = turn(p, s, l.bytes, l.number, l.ended, write, buffer, z);
+        z = w.at;
+        if !w.more {
+            return w.put;
+        }
+    }
 }
 
 // What follows the plan's own line: nothing behind a refused plan, and behind a taken one its events, from a fresh table.
@@ -243,11 +282,7 @@ fn behind_plan(
             line,
         } => {
             table::fresh(s);
-            let c = Cursor {
-                at: place,
-                number: line,
-            };
-            events(text, p, s, c, write, buffer, at)
+            events(text, place, line, p, s, write, buffer, at)
         }
         Answer::Refused { line: _, number: _ } => Put::Behind(at),
     }
