@@ -1,5 +1,6 @@
--- Handed: laws of what a reader hands out. AllLines: call after call it hands out the text's lines. Lending: a reader in a local of a function is lent to `next` for one call.
+-- Handed: laws of what a reader hands out. AllLines: call after call it hands out the text's lines. Making, Lending: for a walk that has a reader in a local, how `new` makes it, and how it is lent to `next` for one call.
 pub mod Handed
 pub mod AllLines
 pub mod Lending
+pub mod Making
 mod Samples
