@@ -15,7 +15,8 @@ use Rattle.text.specs.declared.Next.the-variants.{Line, Unended, Done}
 use Rattle.text.proofs.Parts.{part-length}
 use Rattle.text.proofs.Lines.{scanned-line, scanned-unended, scanned-done}
 use Rattle.reader.specs.declared.Found.{Found}
-use Rattle.reader.specs.LineReader.{HandedOut, until, handsOut, numbered, found, foundAt}
+use Rattle.reader.specs.LineReader.{found, foundAt}
+use Rattle.reader.specs.HandsOut.{HandedOut, until, handsOut, numbered}
 
 -- one call, by what is found
 abbrev onCall : ℕ → List ℕ → ℕ → ℕ → Found → List HandedOut

@@ -1,1 +1,2 @@
 pub mod LineReader
+pub mod HandsOut

@@ -1,13 +1,12 @@
 -- What the line reader hands out, and where it is left, by what the scanner of `text` answers at its place.
 use Prim.Native.Nat.{ℕ, zero, suc, _+_, min}
 use mathlib.Core.Path.{_≡_}
-use mathlib.Core.Bool.{Bool, true, false, not, _&&_}
-use mathlib.Core.List.{List, [], _∷_}
-use lib.Dec.{eqb}
+use mathlib.Core.Bool.{Bool, true, false}
+use mathlib.Core.List.{List}
 use lib.ListN.{length}
 use denote.Ref.{RefT, now}
 use Rattle.text.specs.Part.{part}
-use Rattle.text.specs.Line.{Lines, nothing, unended, ended, nextNumber, nextLine}
+use Rattle.text.specs.Line.{nextNumber, nextLine}
 use Rattle.text.specs.declared.Cursor.{Cursor}
 use Rattle.text.specs.declared.Next.{Next}
 use Rattle.text.specs.declared.Next.the-variants.{Line, Unended, Done}
@@ -41,28 +40,3 @@ unfoldable pub answerOf : ℕ → ℕ → ℕ → Bool → Cursor → Next
 answerOf at n number true next = Line at (at + n) number next
 answerOf at zero number false next = Done number
 answerOf at (suc n) number false next = Unended at (at + suc n) number
-
--- a line as it is handed out
-pub record HandedOut : Type 0 where
-  pub bytes : List ℕ
-  pub number : ℕ
-  pub ended : Bool
-
--- nothing where nothing is left, else the line before the others
-abbrev pub until : Bool → HandedOut → List HandedOut → List HandedOut
-until true x others = []
-until false x others = x ∷ others
-
--- what a reader at a place hands out in so many calls, up to where nothing is left
-unfoldable pub handsOut : ℕ → List ℕ → ℕ → ℕ → List HandedOut
-handsOut zero text at number = []
-handsOut (suc calls) text at number =
-    let f = foundAt text at number in
-    let bytes = part text at (f .end) in
-    until (not (f .ended) && eqb (length bytes) 0) (record { bytes = bytes; number = number; ended = f .ended }) (handsOut calls text (f .at) (f .number))
-
--- the lines of a text, numbered from n on
-unfoldable pub numbered : ℕ → Lines → List HandedOut
-numbered n nothing = []
-numbered n (unended l) = record { bytes = l; number = n; ended = false } ∷ []
-numbered n (ended l rest) = record { bytes = l; number = n; ended = true } ∷ numbered (nextNumber n) rest

@@ -7,6 +7,7 @@ ghost use Prim.Native.Nat.{_+_, _<_, _^_};
 ghost use Rattle.text.specs.Line.{nextLine};
 ghost use Rattle.reader.specs.LineReader.{foundAt, PartOf, ahead, movedOn, answerOf};
 
+// A lent text, the place of its next line, and that line's number.
 pub struct Reader<'a> {
     pub text: &'a [u8],
     pub at: usize,
@@ -28,6 +29,7 @@ pub struct Found {
     pub number: usize,
 }
 
+// What stands at a place.
 fn scan(text: &[u8], at: usize, number: usize) -> Found
     ensures { λ r. ⌜ r ≡ foundAt (now (text .entry)) at number ⌝ }
 {
