@@ -18,7 +18,7 @@ use prog.Routine.{Routine}
 use prog.Wp.{Heap}
 use ghost.Atoms.{Atoms, sem}
 use contract.Monad.{Fun, fact}
-use types.Kit.{Given, ‵, raw, given, some, later, Item, mean, _⊛_, ⋆, _$_, _∵_, !, qed, move, keep, drop, use1, use2, use3, split, join, pick, learn, rewrite, fsplit, fjoin, feqL, frame, await, updating, show, check, now as at-once, done}
+use types.Kit.{Given, ‵, raw, given, some, later, Item, mean, _⊛_, ⋆, _$_, _∵_, !, qed, move, keep, drop, use1, use2, use3, split, join, pick, rewrite, fsplit, fjoin, feqL, frame, await, updating, show, check, now as at-once, done}
 use types.Tokens.{lft-new, lft-end}
 use denote.RattleType.{RattleType, owns}
 use denote.Laws.{Is}
@@ -29,14 +29,13 @@ use denote.Plain.{uint-makes, bool-makes}
 use denote.Ref.{RefT, MutRef, ShrRef, now, ptr-vals, shr-copy}
 use denote.Slice.{sliceVal, MutSlice, ShrSlice, Room}
 use denote.Steps.{nothing, owned, heard}
-use denote.Struct.Rest.{all-own, ownAt, rest, own-open, own-out}
 use denote.Triple.Clauses.{ensured, lasts}
 use denote.Triple.Spec.{tripleOf}
 use denote.Triple.Statement.{Contract}
 use Rattle.reader.specs.declared.Line.{Line}
 use Rattle.reader.proofs.Line as N
 use Rattle.reader.proofs.Line.Laws as N′
-use Rattle.reader.proofs.Lending as L
+use Rattle.reader.proofs.Holding as has
 use Rattle.logbook.specs.Cells.{Run}
 use Rattle.session.specs.declared.Went.{Went}
 use Rattle.session.specs.Turn.{lineBy, Turned}
@@ -68,7 +67,7 @@ module _ (κ₀ κ₁ κ₂ κ₃ : Lft) (P : RefT (List ℕ)) (b₂ o₂ : ℕ)
   OwnB buffer = MutSlice (named 3) κ₃ u8 .own (at-place (b₃, o₃) γ₃ buffer) (sliceVal (b₃, o₃) (length buffer) ∷ [])
 
   abbrev pub OwnL : Line → Fml
-  OwnL l = N.the-row (L.α κ₀) .own l (N′.lowered l ∷ [])
+  OwnL l = N.the-row (has.α κ₀) .own l (N′.lowered l ∷ [])
 
 module _ {M : Type 1} (𝓤 : URA M) (H : Heap 𝓤) (A : Atoms 𝓤) (W : Given 𝓤 H A) (at-mem : Memory → SProp 𝓤) (run : Routine → Fun 𝓤)
     (κ₀ κ₁ κ₂ κ₃ : Lft) (q₀ q₁ q₂ q₃ : Share) (P : RefT (List ℕ)) (b₂ o₂ : ℕ) (γ₂ : GName) (b₃ o₃ : ℕ) (γ₃ : GName) (write : Bool) (cells buffer : List ℕ) (l : Line) (z : ℕ) where
@@ -89,10 +88,7 @@ module _ {M : Type 1} (𝓤 : URA M) (H : Heap 𝓤) (A : Atoms 𝓤) (W : Given
   Bytes = ShrSlice (named 2) κ₀ u8 .own (l .bytes) (sliceVal (l .bytes .ptr) (length (l .bytes .now)) ∷ [])
 
   bytes-out : ent 𝓤 (sem 𝓤 H A Ln) (sem 𝓤 H A Bytes)
-  bytes-out =
-      qed W (‵ Ln ∷ []) ∵ use1 W (given (N′.lowered l ∷ [] ≡ N′.lowered l ∷ []) (‵ (all-own (N.the-type (L.α κ₀) .parts) (N′.the-laws (L.α κ₀)) (l .bytes, (l .number, (l .ended, tt)))))) (own-open 𝓤 H A W (N.the-type (L.α κ₀)) (N′.the-laws (L.α κ₀)) (l .bytes, (l .number, (l .ended, tt))) (N′.lowered l)) $ learn ! (λ _.
-      use1 W (‵ (ownAt (N.the-type (L.α κ₀) .parts) (N′.the-laws (L.α κ₀)) 0 (l .bytes)) ⊛ ‵ (rest (N.the-type (L.α κ₀) .parts) (N′.the-laws (L.α κ₀)) 0 (l .bytes, (l .number, (l .ended, tt))))) (own-out 𝓤 H A W (N.the-type (L.α κ₀) .parts) (N′.the-laws (L.α κ₀)) 0 (l .bytes, (l .number, (l .ended, tt)))) $ split ! $
-      keep ! (0 ∷ []) $ done !)
+  bytes-out = has.field-of 𝓤 H A W (N.the-type (has.α κ₀)) (N′.the-laws (has.α κ₀)) 0 (l .bytes, (l .number, (l .ended, tt))) (N′.lowered l)
 
   -- what the call binds outside
   abbrev κs : ℕ → Lft × (Lft × (Lft × (Lft × Unit {0})))

@@ -48,6 +48,7 @@ use Rattle.reader.specs.declared.Found.{Found}
 use Rattle.reader.specs.declared.Reader.{Reader}
 use Rattle.reader.specs.declared.Line.{Line}
 use Rattle.reader.proofs.Handed.{part-fits, answered}
+use Rattle.reader.proofs.Holding as has
 use Rattle.reader.proofs.Lending as L
 use Rattle.reader.proofs.Making as m
 use Rattle.reader.proofs.Reader as T
@@ -105,7 +106,7 @@ module _ {M : Type 1} (𝓤 : URA M) (H : Heap 𝓤) (A : Atoms 𝓤) (W : Given
   Post = walkOf 𝓤 H A line-at.ended stayed (line-at.clauses 𝓤 H A mem run) .post (((κ, tt), (q, tt), tt, a, vals), tt)
 
   abbrev Own : Fml
-  Own = ShrSlice (named 0) κ u8 .own s (v ∷ [])
+  Own = has.Slice κ s
 
   goes-new : ent 𝓤 (onEntry 𝓤 H A line-at.signature (κ, tt) (q, tt) a vals) (mean 𝓤 H A (raw (m.New 𝓤 H A mem run .pre (m.to-new 𝓤 H A W mem run κ q s p n)) ⊛ ‵ Own))
   goes-new =
@@ -140,13 +141,6 @@ module _ {M : Type 1} (𝓤 : URA M) (H : Heap 𝓤) (A : Atoms 𝓤) (W : Given
   tells : (l : Line) → L.Handed h l → answer l ≡ nextLine (now s) (record { at = p; number = n })
   tells l e = (λ i. answerOf p (length (e .0 .0 i)) (e .1 i) (e .2 i) (record { at = f .at; number = f .number })) ∙ answered (now s) p n
 
-  -- what whoever holds the reader behind the line knows of its numbers
-  at-fits : Is (L.R κ) (movedOn h) (T′.lowered (movedOn h) ∷ []) → f .at < 2 ^ 64
-  at-fits g = LL.owed (T.the-type (L.α κ)) (T′.the-laws (L.α κ)) (movedOn h) _ g .1 .0 .1
-
-  number-fits : Is (L.R κ) (movedOn h) (T′.lowered (movedOn h) ∷ []) → f .number < 2 ^ 64
-  number-fits g = LL.owed (T.the-type (L.α κ)) (T′.the-laws (L.α κ)) (movedOn h) _ g .1 .1 .0 .1
-
   -- the line ends within a text whose length fits
   within : (l : Line) → Is (ShrSlice (named 0) κ u8) s (v ∷ []) → L.Handed h l → p + length (l .bytes .now) < 2 ^ 64
   within l is e = subst (λ (t : List ℕ). p + length t < 2 ^ 64) (sym (e .0 .0)) (part-fits (now s) p (f .end) p-fits (is .0 .1 .0))
@@ -169,7 +163,7 @@ module _ {M : Type 1} (𝓤 : URA M) (H : Heap 𝓤) (A : Atoms 𝓤) (W : Given
         use1 W (m.Made 𝓤 H A W mem run κ q s p n u) (m.made-of 𝓤 H A W mem run κ q s p n u) $ await ! tt $ learn ! (λ g. split ! $
         -- [what the reader owns; the token; what text owns; _12; …; _11; …; _10; …; _9; …; _8; …; _7; …; _6; …; _5; …; _4; …; _3; …; _2; …; _1; …; room for _0; …]
         land ! (from ! (stop !)) (init ! 15 refl (LL.lawful (T.the-type αᵉ) (T′.the-laws αᵉ) 𝓤 H A W .typed h _ g .0)) $
-        rewrite ! 0 (λ (us : List Val). ‵ (L.R κ .own h us)) (m.spells 𝓤 H A W mem run κ q s p n g) refl $ rewrite ! 15 (λ (x : Val). ‵ (fat fullShare (T′.mir erased) l₆ 0 x)) (ap only (m.spells 𝓤 H A W mem run κ q s p n g)) refl $
+        rewrite ! 0 (λ (us : List Val). ‵ (has.R κ .own h us)) (m.spells 𝓤 H A W mem run κ q s p n g) refl $ rewrite ! 15 (λ (x : Val). ‵ (fat fullShare (T′.mir erased) l₆ 0 x)) (ap only (m.spells 𝓤 H A W mem run κ q s p n g)) refl $
         assigns ! (of-opd ! (load ! (from ! (stop !)) (look ! 15 refl))) (from ! (stop !)) (init ! 19 refl (LL.lawful (T.the-type αᵉ) (T′.the-laws αᵉ) 𝓤 H A W .typed h _ (m.spelled 𝓤 H A W mem run κ q s p n g) .0)) $
         assigns ! (addr ! (from ! (stop !))) (from ! (stop !)) (init ! 13 refl (tt, tt)) $
         -- the reader is lent to `next`
@@ -177,17 +171,17 @@ module _ {M : Type 1} (𝓤 : URA M) (H : Heap 𝓤) (A : Atoms 𝓤) (W : Given
         -- [what `next` asks; what is kept; true; what text owns; _12; …; _11; …; _10; …; _9; …; _8; …; _7; …; _6; …; _5; …; that _4 dies; _3; …; _2; …; _1; …; room for _0; …]
         calls-at ! fm (L.Next 𝓤 H A mem run) known-next (L.to-next 𝓤 H A W mem run κ q l₄ h ν γ) (and-then ! (load ! (from ! (stop !)) (look ! 14 refl)) (no-more !)) (λ w.
         use2 W (L.Back 𝓤 H A W mem run κ q l₄ h w) (L.comes-back 𝓤 H A W mem run κ q l₄ h ν γ w) $ await ! tt $ pick ! (λ l. learn ! (λ e. split ! $ move ! (1 ∷ []) $ split ! $ move ! (1 ∷ []) $ split ! $
-        peeks ! (L.R κ) (Is (L.R κ)) (shows 𝓤 H A (L.R κ)) (movedOn h) (T′.lowered (movedOn h) ∷ []) (λ g′. drop ! $ move ! (2 ∷ []) $
-        peeks ! (N.the-row (L.α κ)) (Is (N.the-row (L.α κ))) (shows 𝓤 H A (N.the-row (L.α κ))) l (w ∷ []) (λ k.
-        land ! (from ! (stop !)) (init ! 19 refl (LL.lawful (N.the-type αᵉ) (N′.the-laws αᵉ) 𝓤 H A W .typed l _ k .0)) $ rewrite ! 19 (λ (x : Val). ‵ (fat fullShare (N′.mir erased) l₅ 0 x)) (ap only (LL.tells (N.the-type (L.α κ)) (N′.the-laws (L.α κ)) l _ k)) refl $ drop ! $
+        peeks ! (has.R κ) (Is (has.R κ)) (shows 𝓤 H A (has.R κ)) (movedOn h) (T′.lowered (movedOn h) ∷ []) (λ g′. drop ! $ move ! (2 ∷ []) $
+        peeks ! (N.the-row (has.α κ)) (Is (N.the-row (has.α κ))) (shows 𝓤 H A (N.the-row (has.α κ))) l (w ∷ []) (λ k.
+        land ! (from ! (stop !)) (init ! 19 refl (LL.lawful (N.the-type αᵉ) (N′.the-laws αᵉ) 𝓤 H A W .typed l _ k .0)) $ rewrite ! 19 (λ (x : Val). ‵ (fat fullShare (N′.mir erased) l₅ 0 x)) (ap only (LL.tells (N.the-type (has.α κ)) (N′.the-laws (has.α κ)) l _ k)) refl $ drop ! $
         -- [the token; the reader; true; what text owns; _12; …; _11; …; _10; …; _9; …; _8; …; _7; …; _6; …; the line; …; that _4 dies; _3; …; _2; …; _1; …; room for _0; …]
-        assigns ! (of-opd ! (load ! (from ! (fld ! refl (fld ! refl (stop !)))) (look-in ! 18 (sub ! 1 refl (sub ! 0 refl (whole !)))))) (from ! (stop !)) (init ! 12 refl (tt, record { fits = L.bytes-fit κ l w k })) $
-        assigns ! (of-opd ! (load ! (from ! (fld ! refl (stop !))) (look-in ! 18 (sub ! 1 refl (whole !))))) (from ! (stop !)) (init ! 10 refl (tt, record { fits = L.number-fits κ l w k })) $
+        assigns ! (of-opd ! (load ! (from ! (fld ! refl (fld ! refl (stop !)))) (look-in ! 18 (sub ! 1 refl (sub ! 0 refl (whole !)))))) (from ! (stop !)) (init ! 12 refl (tt, record { fits = has.bytes-fit κ l w k })) $
+        assigns ! (of-opd ! (load ! (from ! (fld ! refl (stop !))) (look-in ! 18 (sub ! 1 refl (whole !))))) (from ! (stop !)) (init ! 10 refl (tt, record { fits = has.line-fits κ l w k })) $
         assigns ! (of-opd ! (load ! (from ! (fld ! refl (stop !))) (look-in ! 18 (sub ! 2 refl (whole !))))) (from ! (stop !)) (init ! 8 refl (tt, tt)) $
-        assigns ! (of-opd ! (load ! (from ! (fld ! refl (stop !))) (look-in ! 1 (sub ! 1 refl (whole !))))) (from ! (stop !)) (init ! 6 refl (tt, record { fits = at-fits g′ })) $
-        assigns ! (of-opd ! (load ! (from ! (fld ! refl (stop !))) (look-in ! 1 (sub ! 2 refl (whole !))))) (from ! (stop !)) (init ! 4 refl (tt, record { fits = number-fits g′ })) $
+        assigns ! (of-opd ! (load ! (from ! (fld ! refl (stop !))) (look-in ! 1 (sub ! 1 refl (whole !))))) (from ! (stop !)) (init ! 6 refl (tt, record { fits = has.at-fits κ (movedOn h) _ g′ })) $
+        assigns ! (of-opd ! (load ! (from ! (fld ! refl (stop !))) (look-in ! 1 (sub ! 2 refl (whole !))))) (from ! (stop !)) (init ! 4 refl (tt, record { fits = has.number-fits κ (movedOn h) _ g′ })) $
         -- the call of `told`
-        use0 W (raw (Told 𝓤 H A mem run .pre (to-told l))) (goes-told l (L.bytes-fit κ l w k) (L.number-fits κ l w k) (at-fits g′) (number-fits g′) (within l is e)) $
+        use0 W (raw (Told 𝓤 H A mem run .pre (to-told l))) (goes-told l (has.bytes-fit κ l w k) (has.line-fits κ l w k) (has.at-fits κ (movedOn h) _ g′) (has.number-fits κ (movedOn h) _ g′) (within l is e)) $
         calls-at ! fm (Told 𝓤 H A mem run) known-told (to-told l) (and-then ! (load ! (from ! (stop !)) (look ! 24 refl)) (and-then ! (load ! (from ! (stop !)) (look ! 13 refl)) (and-then ! (load ! (from ! (stop !)) (look ! 11 refl)) (and-then ! (load ! (from ! (stop !)) (look ! 9 refl)) (and-then ! (load ! (from ! (stop !)) (look ! 7 refl)) (and-then ! (load ! (from ! (stop !)) (look ! 5 refl)) (no-more !))))))) (λ z.
         use1 W (later (some (λ (x : Next). (‵ ftrue ⊛ ‵ (X.the-row .own x (z ∷ []))) ⊛ raw (ensured 𝓤 H A told.ended (told.clauses 𝓤 H A mem run) tt (p, (length (l .bytes .now), (l .number, (l .ended, (f .at, (f .number, tt)))))) tt x)))) (id⊢ 𝓤 _) $ await ! tt $ pick ! (λ x.
         split ! $ move ! (1 ∷ []) $ use1 W (raw (fact 𝓤 (x ≡ answer l))) (told-said l x) $ heard ! (x ≡ answer l) (λ e′. split ! $ move ! (1 ∷ []) $

@@ -20,7 +20,7 @@ use prog.Wp.{Heap, WpFn, Tables, afterTurn}
 use ghost.Atoms.{Atoms, sem}
 use contract.Monad.{Fun}
 use contract.Running.{givenOf, tables, tablesOf}
-use types.Kit.{Given, Item, ‵, raw, _⊛_, ⋆, given, group, _$_, _∵_, !, qed, by, move, keep, drop, use1, use2, use3, split, join, learn, pick, rewrite, fsplit, fjoin, suffices, frame, await, done}
+use types.Kit.{Given, Item, ‵, raw, _⊛_, ⋆, group, _$_, _∵_, !, qed, by, move, keep, drop, use1, use2, use3, split, join, learn, pick, rewrite, fsplit, fjoin, suffices, frame, await, done}
 use types.Part.{agg, whole, sub, look-in}
 use types.Run.{look, store, init, forget, stop, hop, fld, from, load, addr, un, of-opd, and-then, no-more, assigns, land, first, skips, blocks, branches, returns-within, enter, alloc1, alloc0, params1, pass1, pass0, free1, free0, again, loops}
 use sound.WpLaws.{fmOf, WpFn-mono}
@@ -35,7 +35,6 @@ use denote.Slice.{sliceTy, sliceVal, MutSlice, ShrSlice, Room, slice-vals, shr-s
 use denote.Steps.{only, owned, peeks, nothing}
 use denote.Enum.Laws as EL
 use denote.Struct.Laws as LL
-use denote.Struct.Rest.{all-own, ownAt, rest, own-open, own-out}
 use denote.Triple.Statement.{Triple}
 use denote.Triple.Call.{calls-at}
 use denote.Triple.Entry.{onEntry}
@@ -46,6 +45,7 @@ use denote.Exit.{yes}
 use Rattle.text.specs.Part.{part}
 use Rattle.reader.specs.declared.Reader.{Reader}
 use Rattle.reader.specs.declared.Line.{Line}
+use Rattle.reader.proofs.Holding as has
 use Rattle.reader.proofs.Lending as L
 use Rattle.reader.proofs.Making as m
 use Rattle.reader.proofs.Reader as T
@@ -137,7 +137,7 @@ module _ {M : Type 1} (𝓤 : URA M) (H : Heap 𝓤) (A : Atoms 𝓤) (W : Given
 
   -- what is held of each: the text, the plan, the table and the buffer
   abbrev Tx : Fml
-  Tx = ShrSlice (named 0) κ₀ u8 .own s (v ∷ [])
+  Tx = has.Slice κ₀ s
 
   abbrev Pl : Fml
   Pl = held.OwnP κ₀ κ₁ κ₂ κ₃ P b₂ o₂ γ₂ b₃ o₃ γ₃
@@ -191,14 +191,12 @@ module _ {M : Type 1} (𝓤 : URA M) (H : Heap 𝓤) (A : Atoms 𝓤) (W : Given
 
   -- what became of the line's output, out of how the run goes on
   put-out : (w : Went) → ent 𝓤 (sem 𝓤 H A (G.the-row .own w (LL.vals G.the-type G′.the-laws w))) (sem 𝓤 H A (Y.the-row .own (w .put) (EL.vals Y.the-type Y′.the-laws (w .put))))
-  put-out w =
-      qed W (‵ (G.the-row .own w (LL.vals G.the-type G′.the-laws w)) ∷ []) ∵ use1 W (given (LL.vals G.the-type G′.the-laws w ≡ LL.vals G.the-type G′.the-laws w) (‵ (all-own (G.the-type .parts) G′.the-laws (w .put, (w .at, (w .more, tt)))))) (own-open 𝓤 H A W G.the-type G′.the-laws (w .put, (w .at, (w .more, tt))) (LL.val G.the-type G′.the-laws w)) $ learn ! (λ _.
-      use1 W (‵ (ownAt (G.the-type .parts) G′.the-laws 0 (w .put)) ⊛ ‵ (rest (G.the-type .parts) G′.the-laws 0 (w .put, (w .at, (w .more, tt))))) (own-out 𝓤 H A W (G.the-type .parts) G′.the-laws 0 (w .put, (w .at, (w .more, tt)))) $ split ! $ keep ! (0 ∷ []) $ done !)
+  put-out w = has.field-of 𝓤 H A W G.the-type G′.the-laws 0 (w .put, (w .at, (w .more, tt))) (LL.val G.the-type G′.the-laws w)
 
   -- the context at a turn's start. The values of the turn's own locals are forgotten at its end
   abbrev Inv : ℕ → ℕ → ℕ → ℕ → ℕ → ℕ → ℕ → ℕ → ℕ → ℕ → ℕ → ℕ → ℕ → ℕ → ℕ → ℕ → ℕ → ℕ → ℕ → ℕ → ℕ → ℕ → St → List (Item 𝓤)
   Inv l₀ l₁ l₂ l₃ l₄ l₅ l₆ l₇ l₈ l₉ l₁₀ l₁₁ l₁₂ l₁₃ l₁₄ l₁₅ l₁₆ l₁₇ l₁₈ l₁₉ l₂₀ l₂₁ t =
-      ‵ (L.cell l₉ (h t)) ∷ ‵ (L.Own κ₀ (h t)) ∷ ‵ (flft κ₀ q₀) ∷ ‵ (S (t .cells)) ∷ ‵ (flft κ₂ q₂) ∷ ‵ (B (t .buffer)) ∷ ‵ (flft κ₃ q₃) ∷ ‵ Pl ∷ ‵ (flft κ₁ q₁) ∷ ‵ Tx ∷ ‵ (fat fullShare (tyInt w64) l₁₀ 0 (vint w64 (t .z)))
+      ‵ (L.cell l₉ (h t)) ∷ ‵ (has.Own κ₀ (h t)) ∷ ‵ (flft κ₀ q₀) ∷ ‵ (S (t .cells)) ∷ ‵ (flft κ₂ q₂) ∷ ‵ (B (t .buffer)) ∷ ‵ (flft κ₃ q₃) ∷ ‵ Pl ∷ ‵ (flft κ₁ q₁) ∷ ‵ Tx ∷ ‵ (fat fullShare (tyInt w64) l₁₀ 0 (vint w64 (t .z)))
       ∷ ‵ (froom (N′.mir erased) l₁₁ 0) ∷ ‵ (froom G′.mir l₁₂ 0) ∷ ‵ (froom (tyRef erased mut (pointee (T.the-row (record { mir = erased; lft = [] }) .written))) l₁₄ 0) ∷ ‵ (froom (tyRef erased mut (pointee (held.Cascade .written))) l₁₅ 0) ∷ ‵ (froom (sliceTy (tyRef erased imm (tyInt w8))) l₁₆ 0) ∷ ‵ (froom (tyInt w64) l₁₇ 0) ∷ ‵ (froom tyBool l₁₈ 0) ∷ ‵ (froom (tyRef erased mut (tyInt w8)) l₁₉ 0) ∷ ‵ (froom (sliceTy (tyRef erased mut (tyInt w8))) l₂₀ 0) ∷ ‵ (froom tyBool l₂₁ 0) ∷ ‵ (froom Y′.mir l₀ 0)
       ∷ ‵ (fat fullShare (sliceTy (tyRef (named 0) imm (tyInt w8))) l₁ 0 v) ∷ ‵ (fat fullShare (tyInt w64) l₂ 0 (vint w64 place)) ∷ ‵ (fat fullShare (tyInt w64) l₃ 0 (vint w64 line)) ∷ ‵ (fat fullShare (tyRef (named 1) imm (pointee (held.Plan .written))) l₄ 0 (vptr (P .ptr .0) (P .ptr .1)))
       ∷ ‵ (fat fullShare (tyRef (named 2) mut (pointee (held.Cascade .written))) l₅ 0 (vptr b₂ o₂)) ∷ ‵ (fat fullShare tyBool l₆ 0 (vbool write)) ∷ ‵ (fat fullShare (sliceTy (tyRef (named 3) mut (tyInt w8))) l₇ 0 (sliceVal (b₃, o₃) (length b₀))) ∷ ‵ (fat fullShare (tyInt w64) l₈ 0 (vint w64 at₀)) ∷ ‵ (froom (T′.mir erased) l₁₃ 0)
@@ -222,7 +220,7 @@ module _ {M : Type 1} (𝓤 : URA M) (H : Heap 𝓤) (A : Atoms 𝓤) (W : Given
         calls-at ! (fmOf 𝓤 H (W .laws) 𝓣) (m.New 𝓤 H A at-mem run) known-new (m.to-new 𝓤 H A W at-mem run κ₀ q₀ s place line) (and-then ! (load ! (from ! (stop !)) (look ! 48 refl)) (and-then ! (load ! (from ! (stop !)) (look ! 46 refl)) (and-then ! (load ! (from ! (stop !)) (look ! 44 refl)) (no-more !)))) (λ u.
         use1 W (m.Made 𝓤 H A W at-mem run κ₀ q₀ s place line u) (m.made-of 𝓤 H A W at-mem run κ₀ q₀ s place line u) $ await ! tt $ learn ! (λ g. split ! $
         land ! (from ! (stop !)) (init ! 25 refl (LL.lawful (T.the-type αᵉ) (T′.the-laws αᵉ) 𝓤 H A W .typed h₀ _ g .0)) $
-        rewrite ! 0 (λ (us : List Val). ‵ (L.R κ₀ .own h₀ us)) (m.spells 𝓤 H A W at-mem run κ₀ q₀ s place line g) refl $ rewrite ! 25 (λ (x : Val). ‵ (fat fullShare (T′.mir erased) l₁₃ 0 x)) (ap only (m.spells 𝓤 H A W at-mem run κ₀ q₀ s place line g)) refl $
+        rewrite ! 0 (λ (us : List Val). ‵ (has.R κ₀ .own h₀ us)) (m.spells 𝓤 H A W at-mem run κ₀ q₀ s place line g) refl $ rewrite ! 25 (λ (x : Val). ‵ (fat fullShare (T′.mir erased) l₁₃ 0 x)) (ap only (m.spells 𝓤 H A W at-mem run κ₀ q₀ s place line g)) refl $
         assigns ! (of-opd ! (load ! (from ! (stop !)) (look ! 25 refl))) (from ! (stop !)) (init ! 33 refl (LL.lawful (T.the-type αᵉ) (T′.the-laws αᵉ) 𝓤 H A W .typed h₀ _ (m.spelled 𝓤 H A W at-mem run κ₀ q₀ s place line g) .0)) $
         assigns ! (of-opd ! (load ! (from ! (stop !)) (look ! 35 refl))) (from ! (stop !)) (init ! 31 refl (tt, record { fits = at-fits })) $ forget ! 25 refl $ move ! (1 ∷ []) $ split ! $
         -- the loop
@@ -235,18 +233,18 @@ module _ {M : Type 1} (𝓤 : URA M) (H : Heap 𝓤) (A : Atoms 𝓤) (W : Given
         calls-at ! (fmOf 𝓤 H (W .laws) 𝓣) (L.Next 𝓤 H A at-mem run) known-next (L.to-next 𝓤 H A W at-mem run κ₀ q₀ l₉ (h t) ν γ) (and-then ! (load ! (from ! (stop !)) (look ! 12 refl)) (no-more !)) (λ u₁.
         use2 W (L.Back 𝓤 H A W at-mem run κ₀ q₀ l₉ (h t) u₁) (L.comes-back 𝓤 H A W at-mem run κ₀ q₀ l₉ (h t) ν γ u₁) $ await ! tt $ pick ! (λ l. learn ! (λ e. split ! $ move ! (1 ∷ []) $ split ! $ move ! (1 ∷ []) $ split ! $ move ! (3 ∷ []) $
         -- [what the line owns; the reader's; the text's token; the reader; the table; its token; the buffer; its token; the plan; its token; the text; z; _11; _12; _14 to _21; _0 to _8; _13; that each local dies]
-        peeks ! (N.the-row (L.α κ₀)) (Is (N.the-row (L.α κ₀))) (shows 𝓤 H A (N.the-row (L.α κ₀))) l (u₁ ∷ []) (λ k.
+        peeks ! (N.the-row (has.α κ₀)) (Is (N.the-row (has.α κ₀))) (shows 𝓤 H A (N.the-row (has.α κ₀))) l (u₁ ∷ []) (λ k.
         land ! (from ! (stop !)) (init ! 12 refl (LL.lawful (N.the-type αᵉ) (N′.the-laws αᵉ) 𝓤 H A W .typed l _ k .0)) $
-        rewrite ! 0 (λ (us : List Val). ‵ (N.the-row (L.α κ₀) .own l us)) (LL.tells (N.the-type (L.α κ₀)) (N′.the-laws (L.α κ₀)) l _ k) refl $ rewrite ! 12 (λ (x : Val). ‵ (fat fullShare (N′.mir erased) l₁₁ 0 x)) (ap only (LL.tells (N.the-type (L.α κ₀)) (N′.the-laws (L.α κ₀)) l _ k)) refl $
+        rewrite ! 0 (λ (us : List Val). ‵ (N.the-row (has.α κ₀) .own l us)) (LL.tells (N.the-type (has.α κ₀)) (N′.the-laws (has.α κ₀)) l _ k) refl $ rewrite ! 12 (λ (x : Val). ‵ (fat fullShare (N′.mir erased) l₁₁ 0 x)) (ap only (LL.tells (N.the-type (has.α κ₀)) (N′.the-laws (has.α κ₀)) l _ k)) refl $
         -- what `turn` is passed
         assigns ! (addr ! (from ! (hop ! (look ! 27 refl) (stop !)))) (from ! (stop !)) (init ! 15 refl (tt, tt)) $
-        assigns ! (of-opd ! (load ! (from ! (fld ! refl (stop !))) (look-in ! 12 (sub ! 0 refl (whole !))))) (from ! (stop !)) (init ! 16 refl (tt, (tt, (record { fits = L.bytes-fit κ₀ l u₁ k }, tt)))) $
-        assigns ! (of-opd ! (load ! (from ! (fld ! refl (stop !))) (look-in ! 12 (sub ! 1 refl (whole !))))) (from ! (stop !)) (init ! 17 refl (tt, record { fits = L.number-fits κ₀ l u₁ k })) $
+        assigns ! (of-opd ! (load ! (from ! (fld ! refl (stop !))) (look-in ! 12 (sub ! 0 refl (whole !))))) (from ! (stop !)) (init ! 16 refl (tt, (tt, (record { fits = has.bytes-fit κ₀ l u₁ k }, tt)))) $
+        assigns ! (of-opd ! (load ! (from ! (fld ! refl (stop !))) (look-in ! 12 (sub ! 1 refl (whole !))))) (from ! (stop !)) (init ! 17 refl (tt, record { fits = has.line-fits κ₀ l u₁ k })) $
         assigns ! (of-opd ! (load ! (from ! (fld ! refl (stop !))) (look-in ! 12 (sub ! 2 refl (whole !))))) (from ! (stop !)) (init ! 18 refl (tt, tt)) $
         assigns ! (addr ! (from ! (fld ! refl (hop ! (look-in ! 29 (sub ! 0 refl (whole !))) (stop !))))) (from ! (stop !)) (init ! 19 refl (tt, tt)) $
         assigns ! (agg ! (and-then ! (load ! (from ! (stop !)) (look ! 19 refl)) (and-then ! (load ! (from ! (fld ! refl (stop !))) (look-in ! 29 (sub ! 1 refl (whole !)))) (no-more !)))) (from ! (stop !)) (init ! 20 refl (tt, (tt, (record { fits = room-at t .0 }, tt)))) $
         -- the table and the buffer are lent to `turn`
-        move ! (0 ∷ 2 ∷ 4 ∷ 5 ∷ 6 ∷ 7 ∷ 8 ∷ 9 ∷ []) $ group ! 8 $ use1 W (held.Lends 𝓤 H A W at-mem run κ₀ κ₁ κ₂ κ₃ q₀ q₁ q₂ q₃ P b₂ o₂ γ₂ b₃ o₃ γ₃ write (t .cells) (t .buffer) l (t .z)) (held.lends 𝓤 H A W at-mem run κ₀ κ₁ κ₂ κ₃ q₀ q₁ q₂ q₃ P b₂ o₂ γ₂ b₃ o₃ γ₃ write (t .cells) (t .buffer) l (t .z) (L.number-fits κ₀ l u₁ k) (t .z-fits)) $ await ! tt $ pick ! (λ ν′. pick ! (λ δ. pick ! (λ ε. split ! $
+        move ! (0 ∷ 2 ∷ 4 ∷ 5 ∷ 6 ∷ 7 ∷ 8 ∷ 9 ∷ []) $ group ! 8 $ use1 W (held.Lends 𝓤 H A W at-mem run κ₀ κ₁ κ₂ κ₃ q₀ q₁ q₂ q₃ P b₂ o₂ γ₂ b₃ o₃ γ₃ write (t .cells) (t .buffer) l (t .z)) (held.lends 𝓤 H A W at-mem run κ₀ κ₁ κ₂ κ₃ q₀ q₁ q₂ q₃ P b₂ o₂ γ₂ b₃ o₃ γ₃ write (t .cells) (t .buffer) l (t .z) (has.line-fits κ₀ l u₁ k) (t .z-fits)) $ await ! tt $ pick ! (λ ν′. pick ! (λ δ. pick ! (λ ε. split ! $
         calls-at ! (fmOf 𝓤 H (W .laws) 𝓣) (held.Turn 𝓤 H A at-mem run) known-turn (held.to-turn 𝓤 H A W at-mem run κ₀ κ₁ κ₂ κ₃ q₀ q₁ q₂ q₃ P b₂ o₂ γ₂ b₃ o₃ γ₃ write (t .cells) (t .buffer) l (t .z) ν′ δ ε)
         (and-then ! (load ! (from ! (stop !)) (look ! 20 refl)) (and-then ! (load ! (from ! (stop !)) (look ! 9 refl)) (and-then ! (load ! (from ! (stop !)) (look ! 10 refl)) (and-then ! (load ! (from ! (stop !)) (look ! 11 refl)) (and-then ! (load ! (from ! (stop !)) (look ! 12 refl)) (and-then ! (load ! (from ! (stop !)) (look ! 22 refl)) (and-then ! (load ! (from ! (stop !)) (look ! 14 refl)) (and-then ! (load ! (from ! (stop !)) (look ! 5 refl)) (no-more !))))))))) (λ u₂.
         use2 W (held.Back 𝓤 H A W at-mem run κ₀ κ₁ κ₂ κ₃ q₀ q₁ q₂ q₃ P b₂ o₂ γ₂ b₃ o₃ γ₃ write (t .cells) (t .buffer) l (t .z) u₂) (held.comes-back 𝓤 H A W at-mem run κ₀ κ₁ κ₂ κ₃ q₀ q₁ q₂ q₃ P b₂ o₂ γ₂ b₃ o₃ γ₃ write (t .cells) (t .buffer) l (t .z) (room-at t) ν′ δ ε u₂) $ await ! tt $ pick ! (λ w. pick ! (λ xs. pick ! (λ ys. learn ! (λ c. split ! $
