@@ -25,5 +25,6 @@ unfoldable pub wentBy : Bool → Put → Went
 wentBy ended (Behind z) = record { put = Behind z; at = z; more = ended }
 wentBy ended Short = record { put = Short; at = 0; more = false }
 
+-- a turn that has left how the run goes on, these cells and this buffer
 abbrev pub Turned : Bool → Run → Went → List ℕ → List ℕ → Type 0
 Turned ended x w s b = (w ≡ wentBy ended (x .put)) × ((s ≡ x .cells) × (b ≡ x .buffer))
