@@ -11,7 +11,7 @@ use lib.Dec.{eqb, ltb}
 use lib.ListN.{length}
 use Rattle.rules.specs.Call.{Call, ask, off, reserve, until, step, Answer}
 use Rattle.rules.specs.Run.{Entry}
-use Rattle.rules.proofs.Choices.{Which, which, yes′, no′, and-both}
+use Rattle.rules.proofs.Laws.Passes.{Which, which, yes′, no′, and-both}
 use Rattle.plan.specs.Tables.{planOf}
 use Rattle.plan.specs.Reading.{reading}
 use Rattle.plan.specs.Taken.{TakenAs}

@@ -6,7 +6,7 @@ use mathlib.Core.List.{List}
 use native.Mathlib.Omega.{arith}
 use lib.ListN.{getD}
 use Rattle.rules.specs.Choice.{if_then_else_}
-use Rattle.rules.proofs.Choices.{Which, which, yes′, no′, true-false}
+use Rattle.rules.proofs.Laws.Passes.{Which, which, yes′, no′, true-false}
 use Rattle.state.specs.Calls.{performBy}
 use Rattle.calls.specs.Table.{callAt, isKind, kindsFrom, sixOf, putSix, listFrom}
 

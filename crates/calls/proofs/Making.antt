@@ -8,7 +8,7 @@ use borrow.Author.Tests.{leb-true, eqb-false}
 use lib.Dec.{eqb, leb}
 use lib.ListN.{getD}
 use Rattle.rules.specs.Call.{Call, ask, off, reserve, until, step}
-use Rattle.rules.proofs.Choices.{Which, which, yes′, no′, true-false, and-both}
+use Rattle.rules.proofs.Laws.Passes.{Which, which, yes′, no′, true-false, and-both}
 use Rattle.state.specs.Calls.{isEvent, EventPromise, rowBy, Performed, eventLeft, performBy}
 use Rattle.calls.specs.Table.{callOf, callAt, isKind, sixOf}
 use Rattle.calls.proofs.Numbers.{six, event-six}

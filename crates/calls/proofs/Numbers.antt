@@ -9,7 +9,7 @@ use lib.Dec.{eqb, ltb}
 use Rattle.rules.specs.Call.{Class, normal, high, Call, ask, off, reserve, until, step, Answer, refused, grant}
 use Rattle.rules.specs.Plan.{Plan}
 use Rattle.rules.specs.Rows.{Row, firstRow}
-use Rattle.rules.proofs.Choices.{Which, which, yes′, no′}
+use Rattle.rules.proofs.Laws.Passes.{Which, which, yes′, no′}
 use Rattle.state.specs.declared.Due.{Due}
 use Rattle.state.specs.declared.Due.the-variants.{At, Never}
 use Rattle.state.specs.declared.Sought.{Sought}

@@ -15,9 +15,9 @@ use Rattle.rules.specs.AnyMoment.{AnyMoment}
 use Rattle.rules.specs.Saving.{SavesOn}
 use Rattle.rules.specs.Travel.{Travels}
 use Rattle.rules.specs.Promises.{NoTimeLost, Admits}
-use Rattle.rules.proofs.Acceptance.{acceptable-taken, taken-acceptable}
-use Rattle.rules.proofs.AlwaysSound.{Good, good}
-use Rattle.rules.proofs.Control.Like.{control-follows}
+use Rattle.rules.proofs.Core.Acceptance.{acceptable-taken, taken-acceptable}
+use Rattle.rules.proofs.Core.AlwaysSound.{Good, good}
+use Rattle.rules.proofs.Control.FollowsFlat.{control-follows}
 use Rattle.plan.specs.Tables.{planOf}
 use Rattle.plan.specs.Reading.{reading}
 use Rattle.plan.specs.Taken.{TakenAs}

@@ -5,7 +5,7 @@ use mathlib.Core.Bool.{Bool, true, false}
 use mathlib.Core.List.{List, [], _∷_}
 use Rattle.rules.specs.Call.{Call, ask, off, reserve, until, step, Answer}
 use Rattle.rules.specs.Run.{Entry}
-use Rattle.rules.proofs.Choices.{true-false}
+use Rattle.rules.proofs.Laws.Passes.{true-false}
 use Rattle.state.specs.declared.Step.{Step}
 use Rattle.state.specs.Fresh.{freshCells}
 use Rattle.state.specs.Calls.{isEvent, EventPromise, StepPromise, eventAnswer, stepAnswer, rowBy, eventBy, eventLeft, performBy}

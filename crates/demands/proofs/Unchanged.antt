@@ -6,7 +6,7 @@ use mathlib.Core.List.{List}
 use lib.Dec.{eqb, ltb}
 use Rattle.rules.specs.Choice.{if_then_else_}
 use Rattle.rules.specs.Call.{Call, ask, off, reserve, until, step, Answer, taken, refused, grant, rest, quiet}
-use Rattle.rules.proofs.Choices.{Which, which, yes′, no′}
+use Rattle.rules.proofs.Laws.Passes.{Which, which, yes′, no′}
 use Rattle.state.specs.declared.Due.{Due}
 use Rattle.state.specs.declared.Due.the-variants.{At, Never}
 use Rattle.state.specs.declared.Sought.{Sought}

@@ -9,7 +9,7 @@ use lib.ListN.{getD}
 use borrow.Author.Tests.{le-leb}
 use Rattle.rules.specs.Choice.{sum}
 use Rattle.rules.specs.Rows.{load, loads}
-use Rattle.rules.proofs.Choices.{sum-same}
+use Rattle.rules.proofs.Laws.Passes.{sum-same}
 use Rattle.plan.specs.Tables.{planOf}
 use Rattle.state.specs.Layout.{shareOf, latestCell}
 use Rattle.state.specs.Decode.{planIn, coreOf}

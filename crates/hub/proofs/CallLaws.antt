@@ -11,7 +11,7 @@ use Rattle.rules.specs.Drawn.{Within}
 use Rattle.rules.specs.Call.{Class, Call, ask, off, reserve, until, step, time}
 use Rattle.rules.specs.Rows.{Row, last-time, row13, row14, row15, row15r, row16, row17}
 use Rattle.rules.specs.Promises.{InRange, given-up, packets}
-use Rattle.rules.proofs.Passed.{passed11, passed13, passed14, passed15, passed15r}
+use Rattle.rules.proofs.Core.RowsPassed.{passed11, passed13, passed14, passed15, passed15r}
 use Rattle.state.specs.declared.Step.the-variants.{Refused}
 use Rattle.state.specs.Layout.{half, timeAt, clock-cell}
 use Rattle.state.specs.Decode.{planIn, coreOf}

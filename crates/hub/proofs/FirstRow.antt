@@ -6,7 +6,7 @@ use mathlib.Core.List.{List, [], _∷_, _++_}
 use lib.Dec.{eqb}
 use borrow.Author.Tests.{eq-eqb}
 use Rattle.rules.specs.Rows.{Row, firstRow}
-use Rattle.rules.proofs.Choices.{Which, which, yes′, no′, true-false, and-both}
+use Rattle.rules.proofs.Laws.Passes.{Which, which, yes′, no′, true-false, and-both}
 use Rattle.state.specs.Calls.{numberOf}
 
 -- 0, or the number of the first row that applies

@@ -12,7 +12,7 @@ use Rattle.rules.specs.Plan.{Plan}
 use Rattle.rules.specs.Drawn.{Within}
 use Rattle.rules.specs.Core.{Share, advance, bitsOf}
 use Rattle.rules.specs.Rows.{load, loads, row16, row17}
-use Rattle.rules.proofs.Choices.{Which, which, yes′, no′, sum-same, sum-put}
+use Rattle.rules.proofs.Laws.Passes.{Which, which, yes′, no′, sum-same, sum-put}
 use Rattle.state.specs.Layout.{half, classOf, forceCell, latestCell, shareOf, shareCode, requestOf}
 use Rattle.state.specs.Decode.{isNode, coreOf}
 use Rattle.state.specs.Frames.{newFrame}

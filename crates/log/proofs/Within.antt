@@ -8,7 +8,7 @@ use borrow.Author.Tests.{leb-true, leb-false}
 use lib.Dec.{leb}
 use lib.ListN.{length, take}
 use lib.Seq.{length-take-le}
-use Rattle.rules.proofs.Clash.{clash}
+use Rattle.rules.proofs.Laws.Clash.{clash}
 use Rattle.writer.specs.declared.Put.{Put}
 use Rattle.writer.specs.declared.Put.the-variants.{Behind}
 use Rattle.writer.specs.Write.{putAnswer, putBuffer}

@@ -7,7 +7,7 @@ use Prim.Native.Nat.{ℕ, _+_, _≤_}
 use native.Mathlib.Nat.{add-zero}
 use native.Mathlib.Omega.{arith}
 use lib.ListN.{length, take, length-append}
-use Rattle.rules.proofs.Clash.{clash}
+use Rattle.rules.proofs.Laws.Clash.{clash}
 use Rattle.writer.specs.declared.Put.{Put}
 use Rattle.writer.specs.declared.Put.the-variants.{Behind, Short}
 use Rattle.writer.specs.Write.{overwrite, putAnswer, putBuffer, passBuffer, putNumber, putRow}

@@ -14,7 +14,7 @@ use Rattle.rules.specs.Control.{Control, control}
 use Rattle.text.specs.Line.{Lines, nothing, unended, ended, lines, nextNumber, handOut, nextLine}
 use Rattle.text.specs.declared.Cursor.{Cursor}
 use Rattle.writer.specs.declared.Put.the-variants.{Behind}
-use Rattle.plan.proofs.Agree.{First, first}
+use Rattle.plan.proofs.Reading.Agree.{First, first}
 use Rattle.log.specs.FirstLine.{refusedLine}
 use Rattle.events.specs.declared.Event.{Event}
 use Rattle.events.specs.declared.Event.the-variants.{Normal, High, Off, Reserve, Until, NoEvent}

@@ -15,8 +15,8 @@ use Rattle.rules.specs.Rows.{row11}
 use Rattle.rules.specs.Machine.{Hub, Outcome, perform}
 use Rattle.rules.specs.Control.{Control, control}
 use Rattle.rules.specs.Run.{made}
-use Rattle.rules.proofs.Course as course
-use Rattle.rules.proofs.Course.{Course, refusal, quietly}
+use Rattle.rules.proofs.Core.CallCases as course
+use Rattle.rules.proofs.Core.CallCases.{Course, refusal, quietly}
 use Rattle.text.specs.Line.{Lines, nothing, unended, ended, drawLines, nextNumber}
 use Rattle.log.specs.FirstLine.{refusedLine}
 use Rattle.events.specs.Event.{eventOf, callOf}

@@ -15,7 +15,7 @@ use Rattle.rules.specs.Core as core
 use Rattle.rules.specs.Machine.{Hub, perform}
 use Rattle.rules.specs.Control.{Control, control}
 use Rattle.rules.specs.Run.{Entry, freshHub, made}
-use Rattle.rules.proofs.Choices.{Which, which, yes′, no′, sum-same}
+use Rattle.rules.proofs.Laws.Passes.{Which, which, yes′, no′, sum-same}
 use Rattle.ports.specs.Mask.{digit}
 use Rattle.state.specs.Layout.{busy-cell, end-cell, timeAt, requestCell, requestOf}
 use Rattle.state.specs.Decode.{planIn, coreOf}

@@ -16,18 +16,18 @@ use Rattle.rules.specs.Rows.{row11, accept, refuse}
 use Rattle.rules.specs.Machine.{Hub, Outcome, perform}
 use Rattle.rules.specs.Control.{Control, control}
 use Rattle.rules.specs.Run.{made}
-use Rattle.rules.proofs.Choices.{Some, any-some, or-cases, and-both, sum-same, sum-put}
-use Rattle.rules.proofs.Passed.{InTime, passed11}
-use Rattle.rules.proofs.Requests.{of-class, counts-stands}
-use Rattle.rules.proofs.Course as course
-use Rattle.rules.proofs.Course.{Course, refusal, quietly}
-use Rattle.rules.proofs.Instants.{Instant, line-ends, one-counts, one-held, no-instant, instant, Advanced, across, inside, advanced}
-use Rattle.rules.proofs.Advance.{advance-clock}
-use Rattle.rules.proofs.Turns.{node-counts}
-use Rattle.rules.proofs.AlwaysSound.{good, turn-counts}
-use Rattle.rules.proofs.NoTimeLost.{no-time-lost}
-use Rattle.rules.proofs.Control.Like.{control-follows}
-use Rattle.rules.proofs.Clash.{clash}
+use Rattle.rules.proofs.Laws.Passes.{Some, any-some, or-cases, and-both, sum-same, sum-put}
+use Rattle.rules.proofs.Core.RowsPassed.{InTime, passed11}
+use Rattle.rules.proofs.Core.Requests.{of-class, counts-stands}
+use Rattle.rules.proofs.Core.CallCases as course
+use Rattle.rules.proofs.Core.CallCases.{Course, refusal, quietly}
+use Rattle.rules.proofs.Core.Instants.{Instant, line-ends, one-counts, one-held, no-instant, instant, Advanced, across, inside, advanced}
+use Rattle.rules.proofs.Core.ClockAdvance.{advance-clock}
+use Rattle.rules.proofs.Flat.Turns.{node-counts}
+use Rattle.rules.proofs.Core.AlwaysSound.{good, turn-counts}
+use Rattle.rules.proofs.Promised.NoTimeLost.{no-time-lost}
+use Rattle.rules.proofs.Control.FollowsFlat.{control-follows}
+use Rattle.rules.proofs.Laws.Clash.{clash}
 use Rattle.logbook.specs.Log.{stands, runs, budget, afterStep, steps}
 
 -- how many requests stand

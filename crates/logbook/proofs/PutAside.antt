@@ -16,18 +16,18 @@ use Rattle.rules.specs.Machine.{Hub, Outcome, restful, grantTo, perform}
 use Rattle.rules.specs.Control.{Control, control}
 use Rattle.rules.specs.Run.{made}
 use Rattle.rules.specs.Promises.{Acceptable, asks, leaves, reserves, waits}
-use Rattle.rules.proofs.Passed.{InTime}
-use Rattle.rules.proofs.Acceptance.{acceptable}
-use Rattle.rules.proofs.Requests.{counts-stands}
-use Rattle.rules.proofs.Course as course
-use Rattle.rules.proofs.Course.{Course, refusal, event, quietly}
-use Rattle.rules.proofs.Advance.{advance-line}
-use Rattle.rules.proofs.Turns.{node-counts}
-use Rattle.rules.proofs.AlwaysSound.{Good, good, turn-counts, instant-sound}
-use Rattle.rules.proofs.NoTimeLost.{no-time-lost}
+use Rattle.rules.proofs.Core.RowsPassed.{InTime}
+use Rattle.rules.proofs.Core.Acceptance.{acceptable}
+use Rattle.rules.proofs.Core.Requests.{counts-stands}
+use Rattle.rules.proofs.Core.CallCases as course
+use Rattle.rules.proofs.Core.CallCases.{Course, refusal, event, quietly}
+use Rattle.rules.proofs.Core.ClockAdvance.{advance-line}
+use Rattle.rules.proofs.Flat.Turns.{node-counts}
+use Rattle.rules.proofs.Core.AlwaysSound.{Good, good, turn-counts, instant-sound}
+use Rattle.rules.proofs.Promised.NoTimeLost.{no-time-lost}
 use Rattle.rules.proofs.Control.Levels.{levels-up}
-use Rattle.rules.proofs.Control.Like.{control-follows, control-costs}
-use Rattle.rules.proofs.Clash.{clash}
+use Rattle.rules.proofs.Control.FollowsFlat.{control-follows, control-costs}
+use Rattle.rules.proofs.Laws.Clash.{clash}
 use Rattle.log.specs.FirstLine.{refusedLine}
 use Rattle.lines.specs.Lines.{answerLine}
 use Rattle.logbook.specs.Log.{eventLine, runs}

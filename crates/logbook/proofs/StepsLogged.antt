@@ -10,7 +10,7 @@ use Rattle.rules.specs.Call.{step}
 use Rattle.rules.specs.Machine.{Hub, perform}
 use Rattle.rules.specs.Rows.{row11}
 use Rattle.rules.specs.Control.{Control, control}
-use Rattle.rules.proofs.Choices.{Which, which, yes′, no′}
+use Rattle.rules.proofs.Laws.Passes.{Which, which, yes′, no′}
 use Rattle.writer.specs.declared.Put.the-variants.{Behind}
 use Rattle.lines.specs.Lines.{classNumber, grantLine, restLine, stepLine, answerLine}
 use Rattle.state.specs.declared.Due.{Due}

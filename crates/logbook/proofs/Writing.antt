@@ -6,7 +6,7 @@ use mathlib.Core.List.{List, [], _∷_, _++_}
 use Rattle.writer.specs.Write.{putAnswer, passBuffer}
 use Rattle.writer.specs.declared.Put.{Put}
 use Rattle.writer.specs.declared.Put.the-variants.{Behind, Short}
-use Rattle.rules.proofs.Clash.{clash}
+use Rattle.rules.proofs.Laws.Clash.{clash}
 use Rattle.logbook.specs.Cells.{Written, thenLines, putLines, Run, goingOn, line}
 
 -- more lines behind those that were written, or measured

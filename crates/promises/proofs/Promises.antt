@@ -7,17 +7,17 @@ use Rattle.rules.specs.Call.{Call}
 use Rattle.rules.specs.Drawn.{Drawn}
 use Rattle.rules.specs.Control.{control}
 use Rattle.rules.specs.Run.{made}
-use Rattle.rules.proofs.Control.Like.{control-follows}
-use Rattle.rules.proofs.Control.Runs.{control-turns-agree, control-moves}
-use Rattle.rules.proofs.Saving.{control-saves}
-use Rattle.rules.proofs.Travel.{control-travels}
-use Rattle.rules.proofs.ControlDemand3.{control-demand3}
-use Rattle.rules.proofs.AnyMoment.{control-any-moment}
-use Rattle.rules.proofs.NoTimeLost.{no-time-lost}
-use Rattle.rules.proofs.Stable.{clock-grows}
-use Rattle.rules.proofs.Unchanged.{refusal-changes-nothing, quiet-changes-nothing}
-use Rattle.rules.proofs.Admission.{admission-holds}
-use Rattle.rules.proofs.Acceptance.{acceptable-taken, taken-acceptable}
+use Rattle.rules.proofs.Control.FollowsFlat.{control-follows}
+use Rattle.rules.proofs.Control.EveryList.{control-turns-agree, control-moves}
+use Rattle.rules.proofs.Control.Saving.{control-saves}
+use Rattle.rules.proofs.Travel.EveryRun.{control-travels}
+use Rattle.rules.proofs.Demand3.OfControl.{control-demand3}
+use Rattle.rules.proofs.AnyMoment.Theorem.{control-any-moment}
+use Rattle.rules.proofs.Promised.NoTimeLost.{no-time-lost}
+use Rattle.rules.proofs.Core.Stable.{clock-grows}
+use Rattle.rules.proofs.Promised.Unchanged.{refusal-changes-nothing, quiet-changes-nothing}
+use Rattle.rules.proofs.Promised.Admission.{admission-holds}
+use Rattle.rules.proofs.Core.Acceptance.{acceptable-taken, taken-acceptable}
 use Rattle.plan.specs.declared.Answer.the-variants.{Taken}
 use Rattle.plan.specs.Reading.{reading}
 use Rattle.plan.specs.Tables.{planOf}

@@ -1,58 +1,10 @@
--- The theorems: Agree and Control.Runs (turns agree, moves), AlwaysSound and AlwaysTold (what holds at every place of a run), Stable, Unchanged, Admission,
--- Acceptance, NoTimeLost, Demand3 and ControlDemand3, AnyMoment and AnyMomentRuns (a request put up at any moment), Saving (the new rule 2 beside the old),
--- Travel and TravelRuns (a round's travel), Slips and TurningSlips. The other files serve them.
-pub mod Choices
-pub mod InTurn
-pub mod Follows
-pub mod Agree
+-- The theorems about the rules, in folders by what they prove. Each folder's own file, beside it, says how its argument goes and in which order to read.
+-- Laws and Flat serve all others; Core serves those behind it; then each folder stands on its own, but that AnyMoment uses some of Demand3.
+pub mod Laws
+pub mod Flat
+pub mod Core
 pub mod Control
-pub mod Saving
-pub mod Clash
-pub mod Frames
-pub mod Passed
-pub mod Course
-pub mod Acceptance
-pub mod Instants
-pub mod Turns
-pub mod Requests
-pub mod Sound
-pub mod Kept
-pub mod Advance
-pub mod AlwaysSound
-pub mod Tells
-pub mod Entries
-pub mod AlwaysTold
-pub mod HighExactly
-pub mod Stable
-pub mod Places
 pub mod Travel
-pub mod TravelRuns
-pub mod Unchanged
-pub mod Admission
-pub mod NoTimeLost
-pub mod Sums
-pub mod Ahead
-pub mod Fair
-pub mod InFrame
-pub mod Standing
-pub mod Held
-pub mod Stage
-pub mod Changed
-pub mod HighTurn
-pub mod KeepRunning
-pub mod KeepWaiting
-pub mod KeepDone
-pub mod Opening
-pub mod Keep
-pub mod Started
-pub mod Quiet
-pub mod Waiting
-pub mod Serving
-pub mod Undisturbed
-pub mod AnyMoment
-pub mod AnyMomentRuns
 pub mod Demand3
-pub mod ControlDemand3
-pub mod Applies
-pub mod Slips
-pub mod TurningSlips
+pub mod AnyMoment
+pub mod Promised

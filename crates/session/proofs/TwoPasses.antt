@@ -6,8 +6,8 @@ use mathlib.Core.List.{List}
 use native.Mathlib.Omega.{arith}
 use lib.ListN.{length}
 use borrow.Author.Tests.{le-leb, leb-true, leb-false}
-use Rattle.rules.proofs.Choices.{Which, which, yes′, no′}
-use Rattle.rules.proofs.Clash.{clash}
+use Rattle.rules.proofs.Laws.Passes.{Which, which, yes′, no′}
+use Rattle.rules.proofs.Laws.Clash.{clash}
 use Rattle.writer.specs.Write.{fits, putAnswer, putBuffer}
 use Rattle.writer.specs.declared.Put.{Put}
 use Rattle.writer.specs.declared.Put.the-variants.{Behind, Short}

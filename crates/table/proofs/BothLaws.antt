@@ -7,7 +7,7 @@ use native.Mathlib.Omega.{arith}
 use lib.Dec.{ltb}
 use lib.ListN.{getD, set}
 use lib.Seq.{getD-set-other, set-comm}
-use Rattle.rules.proofs.Choices.{Which, which, yes′, no′}
+use Rattle.rules.proofs.Laws.Passes.{Which, which, yes′, no′}
 use Rattle.ports.specs.Ports.{anyPort}
 use Rattle.ports.specs.Mask.{shows}
 use Rattle.plan.specs.Tables as plan

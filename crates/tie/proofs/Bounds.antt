@@ -10,9 +10,9 @@ use Rattle.rules.specs.Call.{high}
 use Rattle.rules.specs.Core.{Core, countsIn}
 use Rattle.rules.specs.Drawn.{Figures, Within}
 use Rattle.rules.specs.Rows.{load, loads}
-use Rattle.rules.proofs.Choices.{sum-put}
-use Rattle.rules.proofs.Requests.{counts-stands, counts-left}
-use Rattle.rules.proofs.Sound.{Sound}
+use Rattle.rules.proofs.Laws.Passes.{sum-put}
+use Rattle.rules.proofs.Core.Requests.{counts-stands, counts-left}
+use Rattle.rules.proofs.Core.Sound.{Sound}
 
 -- one node's load is no more than all
 load-part : (p : Plan) (s : Core) (k : ℕ) → Within (p .nodes) k → load p (s .force k) ≤ loads p (s .force)

@@ -12,7 +12,7 @@ use Rattle.ports.specs.Mask.{digit}
 use Rattle.rules.specs.Plan.{Plan}
 use Rattle.rules.specs.Drawn.{Drawn, Within}
 use Rattle.rules.specs.Core.{countsIn}
-use Rattle.rules.proofs.Choices.{Which, which, yes′, no′, and-both}
+use Rattle.rules.proofs.Laws.Passes.{Which, which, yes′, no′, and-both}
 use Rattle.state.specs.Layout.{cells, standing-cell, holder-cell, class-cell, nodeCell, maskCell, pointerCell, requestCell, forceCell, grantedCell, classOf}
 use Rattle.state.specs.Decode.{isNode, isHub, coreOf}
 use Rattle.state.specs.Masks.{countsAt, stands}

@@ -13,7 +13,7 @@ use borrow.Author.Tests.{ltb-true, ltb-false, leb-true, leb-false, le-ltb, le-le
 use Rattle.rules.specs.Plan.{Plan, node, most-levels}
 use Rattle.rules.specs.Drawn.{Drawn, Within}
 use Rattle.rules.specs.Control as control
-use Rattle.rules.proofs.Choices.{Which, which, yes′, no′}
+use Rattle.rules.proofs.Laws.Passes.{Which, which, yes′, no′}
 use Rattle.rules.proofs.Control.Cover.{hangs}
 use Rattle.rules.proofs.Control.Nearest.{level-low}
 use Rattle.ports.specs.Ports.{ports, putPort, anyPort}

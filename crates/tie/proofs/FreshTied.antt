@@ -17,7 +17,7 @@ use Rattle.rules.specs.Call.{Class}
 use Rattle.rules.specs.Core.{fresh, resting, none, nothing-reserved, countsIn}
 use Rattle.rules.specs.Control.{atPort, atFirst, control}
 use Rattle.rules.specs.Run.{freshHub}
-use Rattle.rules.proofs.Choices.{Which, which, yes′, no′, true-false, and-both}
+use Rattle.rules.proofs.Laws.Passes.{Which, which, yes′, no′, true-false, and-both}
 use Rattle.rules.proofs.Control.Intervals.{Shown, some, clear}
 use Rattle.rules.proofs.Control.Cover.{shown}
 use Rattle.rules.proofs.Control.Pointers.{root-within}

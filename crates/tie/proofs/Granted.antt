@@ -14,7 +14,7 @@ use Rattle.rules.specs.Call.{Class}
 use Rattle.rules.specs.Core.{Core, none, nothing-reserved}
 use Rattle.rules.specs.Machine.{oneMore}
 use Rattle.rules.specs.Rows.{withRequest}
-use Rattle.rules.proofs.Choices.{put-same, put-other}
+use Rattle.rules.proofs.Laws.Passes.{put-same, put-other}
 use Rattle.ports.specs.Mask.{digit}
 use Rattle.state.specs.Layout.{cells, standing-cell, nodeCell, requestCell, grantedCell, classOf, requestOf, shareOf}
 use Rattle.state.specs.Decode.{planIn, isNode, coreOf, controlOf}

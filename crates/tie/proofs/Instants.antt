@@ -13,7 +13,7 @@ use Rattle.rules.specs.Drawn.{Drawn, Within}
 use Rattle.rules.specs.Call.{normal, high}
 use Rattle.rules.specs.Core as rules
 use Rattle.rules.specs.Control.{shows}
-use Rattle.rules.proofs.Choices.{Which, which, yes′, no′, true-false, or-none, or-left, or-right, any-some, any-none, any-intro, none-any}
+use Rattle.rules.proofs.Laws.Passes.{Which, which, yes′, no′, true-false, or-none, or-left, or-right, any-some, any-none, any-intro, none-any}
 use Rattle.rules.proofs.Control.Intervals.{Shown, some, clear, shown-all}
 use Rattle.rules.proofs.Control.Cover.{shown}
 use Rattle.rules.proofs.Control.Pointers.{root-within}

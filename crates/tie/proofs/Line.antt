@@ -11,8 +11,8 @@ use Rattle.rules.specs.Choice.{any}
 use Rattle.rules.specs.Plan.{Plan, Port, node, empty, hub}
 use Rattle.rules.specs.Drawn.{Drawn, Within, Covers}
 use Rattle.rules.specs.Control.{shows}
-use Rattle.rules.proofs.Choices.{Which, which, yes′, no′, true-false}
-use Rattle.rules.proofs.Choices as choices
+use Rattle.rules.proofs.Laws.Passes.{Which, which, yes′, no′, true-false}
+use Rattle.rules.proofs.Laws.Passes as choices
 use Rattle.rules.proofs.Control.Intervals.{Shown, some, clear, shown-all}
 use Rattle.rules.proofs.Control.Cover.{shown, rises, hangs}
 use Rattle.ports.specs.Ports.{ports, anyPort}

@@ -9,7 +9,7 @@ use lib.ListN.{length, getD, set, length-set}
 use lib.Seq.{getD-set-other}
 use borrow.Author.Tests.{ltb-false}
 use Rattle.rules.specs.Drawn.{Within}
-use Rattle.rules.proofs.Choices.{Which, which, yes′, no′}
+use Rattle.rules.proofs.Laws.Passes.{Which, which, yes′, no′}
 use Rattle.ports.specs.Ports.{anyPort}
 use Rattle.ports.specs.Mask.{shows}
 use Rattle.plan.specs.Tables as plan

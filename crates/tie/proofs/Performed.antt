@@ -18,14 +18,14 @@ use Rattle.rules.specs.Machine.{Machine, Hub, Outcome, Turn, granting, grantTo,
 use Rattle.rules.specs.Control as hubs
 use Rattle.rules.specs.Control.{Control, control}
 use Rattle.rules.specs.Promises.{Askable, Acceptable, asks, leaves, reserves, waits, InRange, given-up, packets}
-use Rattle.rules.proofs.Choices.{Which, which, yes′, no′}
-use Rattle.rules.proofs.Clash.{clash}
-use Rattle.rules.proofs.Course.{Event, asking, leaving, reserving, waiting}
-use Rattle.rules.proofs.Acceptance.{acceptable}
-use Rattle.rules.proofs.Sound.{Sound}
-use Rattle.rules.proofs.Turns.{Counting, node-counts}
-use Rattle.rules.proofs.AlwaysSound.{Good, instant-sound, turn-counts}
-use Rattle.rules.proofs.Control.Like.{control-follows}
+use Rattle.rules.proofs.Laws.Passes.{Which, which, yes′, no′}
+use Rattle.rules.proofs.Laws.Clash.{clash}
+use Rattle.rules.proofs.Core.CallCases.{Event, asking, leaving, reserving, waiting}
+use Rattle.rules.proofs.Core.Acceptance.{acceptable}
+use Rattle.rules.proofs.Core.Sound.{Sound}
+use Rattle.rules.proofs.Flat.Turns.{Counting, node-counts}
+use Rattle.rules.proofs.Core.AlwaysSound.{Good, instant-sound, turn-counts}
+use Rattle.rules.proofs.Control.FollowsFlat.{control-follows}
 use Rattle.ports.specs.Mask.{digit}
 use Rattle.state.specs.declared.Due.{Due}
 use Rattle.state.specs.declared.Due.the-variants.{At, Never}

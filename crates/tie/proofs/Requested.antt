@@ -15,7 +15,7 @@ use Rattle.rules.specs.Core.{Core, Request, none, Share, Line, nothing-reserved
 use Rattle.rules.specs.Call.{Class}
 use Rattle.rules.specs.Control.{Control, atPort}
 use Rattle.rules.specs.Rows.{withRequest}
-use Rattle.rules.proofs.Choices.{Which, which, yes′, no′, put-same, put-other}
+use Rattle.rules.proofs.Laws.Passes.{Which, which, yes′, no′, put-same, put-other}
 use Rattle.state.specs.Layout.{cells, two-32, timeAt, clock-cell, end-cell, busy-cell, standing-cell, holder-cell, class-cell, nodeCell, requestCell, forceCell, latestCell, grantedCell, pointerCell, classOf, requestOf, shareOf, pointerOf}
 use Rattle.state.specs.Decode.{planIn, isNode, isHub, isClassHigh, lineOf, coreOf, controlOf}
 use Rattle.state.specs.Masks.{standingAfter, putRequest, mendNode}

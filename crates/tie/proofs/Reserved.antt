@@ -10,7 +10,7 @@ use Rattle.rules.specs.Choice.{if_then_else_, sum}
 use Rattle.rules.specs.Drawn.{Drawn, Within}
 use Rattle.rules.specs.Core.{Share, none, nothing-reserved}
 use Rattle.rules.specs.Rows.{withLatest}
-use Rattle.rules.proofs.Choices.{put-same, put-other}
+use Rattle.rules.proofs.Laws.Passes.{put-same, put-other}
 use Rattle.ports.specs.Mask.{digit}
 use Rattle.state.specs.Layout.{cells, standing-cell, nodeCell, latestCell, shareOf, shareCode, requestOf}
 use Rattle.state.specs.Decode.{planIn, isNode, coreOf, controlOf}

@@ -8,8 +8,8 @@ use Rattle.rules.specs.Drawn.{Drawn}
 use Rattle.rules.specs.Machine.{Hub, Outcome, perform}
 use Rattle.rules.specs.Control.{Control, control}
 use Rattle.rules.specs.Run.{Entry, made}
-use Rattle.rules.proofs.AlwaysSound.{Good, good}
-use Rattle.rules.proofs.Control.Like.{control-follows}
+use Rattle.rules.proofs.Core.AlwaysSound.{Good, good}
+use Rattle.rules.proofs.Control.FollowsFlat.{control-follows}
 use Rattle.state.specs.Decode.{planIn, coreOf, controlOf, hubOf}
 use Rattle.state.specs.Calls.{performBy}
 use Rattle.state.specs.Run.{madeBy}

@@ -9,7 +9,7 @@ use lib.Dec.{ltb, eqb}
 use lib.ListN.{getD}
 use Rattle.rules.specs.Choice.{if_then_else_, put, sum}
 use Rattle.rules.specs.Drawn.{Within}
-use Rattle.rules.proofs.Choices.{Which, which, yes′, no′, put-same, put-other, sum-same, sum-mono, sum-put}
+use Rattle.rules.proofs.Laws.Passes.{Which, which, yes′, no′, put-same, put-other, sum-same, sum-mono, sum-put}
 use Rattle.ports.specs.Mask.{digit}
 use Rattle.state.specs.Layout.{requestCell}
 use Rattle.state.specs.Masks.{stands, standingAfter}

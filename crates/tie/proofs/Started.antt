@@ -14,7 +14,7 @@ use Rattle.rules.specs.Drawn.{Drawn, Within}
 use Rattle.rules.specs.Call.{normal, high}
 use Rattle.rules.specs.Core.{Core, Request, none, standing, Share, nothing-reserved, isClass, turned, frameOf, frameStart, sameFrame, advance, countsIn}
 use Rattle.rules.specs.Control.{Control}
-use Rattle.rules.proofs.Choices.{Which, which, yes′, no′, put-same, put-other, sum-same}
+use Rattle.rules.proofs.Laws.Passes.{Which, which, yes′, no′, put-same, put-other, sum-same}
 use Rattle.ports.specs.Mask.{digit}
 use Rattle.state.specs.Layout.{cells, standing-cell, clock-cell, timeAt, nodeCell, requestCell, forceCell, latestCell, grantedCell, requestOf, requestCode, shareOf}
 use Rattle.state.specs.Decode.{planIn, isNode, coreOf, controlOf}

@@ -16,7 +16,7 @@ use Rattle.rules.specs.Run.{made}
 use Rattle.rules.specs.Words.{clockAt, reserved, highGrants}
 use Rattle.rules.specs.AnyMoment.{firstGrant, keptStanding, waitLimit}
 use Rattle.rules.specs.AnyMomentRuns.{figures}
-use Rattle.rules.proofs.AnyMomentRuns.{ItsRequest, its-request, its-grant}
+use Rattle.rules.proofs.AnyMoment.WorkedWaits.{ItsRequest, its-request, its-grant}
 use Rattle.trials.specs.Text.{bytes, textOf}
 use Rattle.trials.specs.Plans.{plan01}
 use Rattle.trials.specs.AnyMoment.{PlanTaken, AllAsWorked, across, AcrossServed}

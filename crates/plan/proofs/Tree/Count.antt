@@ -12,7 +12,7 @@ use Rattle.plan.specs.Tables.{putHub}
 use Rattle.plan.specs.Reading.{Figures, next}
 use Rattle.plan.specs.Tree.{Port, node, empty, hub, Hub, close, port, drawPort, drawHub, draw, nodesAt, nodesIn, hubsAt, hubsIn, Filled, fillPort, fillHub}
 use Rattle.plan.specs.Behind.{linesAt, linesIn, linesOf, pastPort, pastHub, pastFigures, past}
-use Rattle.plan.proofs.Agree.{first}
+use Rattle.plan.proofs.Reading.Agree.{first}
 
 mutual
   unfolding fillPort nodesAt

@@ -28,7 +28,7 @@ use Rattle.plan.specs.Readers.{Answered, hubReader}
 use Rattle.plan.specs.Tree.{Hub, draw, drawHub, limits, goodFigures}
 use Rattle.plan.specs.Taken.{DrawnBy}
 use Rattle.plan.proofs.Tree.Room.{room-limits}
-use Rattle.plan.proofs.Agree.{first, over, hub-agrees}
+use Rattle.plan.proofs.Reading.Agree.{first, over, hub-agrees}
 use Rattle.plan.proofs.Tree.Trees.{Drawing, kind-line, HubRead, TreeRead, hub-tree}
 use Rattle.plan.proofs.Tree.Figures.{ranges-good}
 

@@ -23,7 +23,7 @@ use Rattle.plan.specs.Reading.{next}
 use Rattle.plan.specs.Readers.{Answered, stop, read, cursor, moved, withNode, withHub, behindPort, onKind, onNext, hubReader}
 use Rattle.plan.specs.Tree.{Port, node, empty, hub, Hub, close, port, drawPort, drawHub, portsOf, nodesAt, nodesIn, hubsAt, hubsIn, levelsAt, levelsIn, widthsAt, widthsIn}
 use Rattle.plan.proofs.Tree.Room.{PortRoom, HubRoom, join-room, outer-room}
-use Rattle.plan.proofs.Agree.{First, first}
+use Rattle.plan.proofs.Reading.Agree.{First, first}
 
 -- the line of each kind
 abbrev pub Drawing : Kind → List ℕ → Type 0

@@ -5,7 +5,7 @@ use lib.ListN.{length}
 use Rattle.plan.specs.declared.Answer.the-variants.{Refused}
 use Rattle.plan.specs.Tables.{putRoot, putFigures}
 use Rattle.plan.specs.Reading.{Read, Figures, leaves}
-use Rattle.plan.proofs.PlanLaws.{root-stopped, hub-stopped, hub-no-node, hub-taken}
+use Rattle.plan.proofs.Cited.PlanLaws.{root-stopped, hub-stopped, hub-no-node, hub-taken}
 use borrow.Author.Needs.{needs}
 use Rattle.plan.proofs.hub_at.Statement.{statement}
 use Rattle.plan.proofs.hub_at.Tie as tie

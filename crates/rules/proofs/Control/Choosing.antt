@@ -8,8 +8,8 @@ use borrow.Author.Tests.{leb-true, leb-false, ltb-true, ltb-false, eqb-true}
 use Rattle.rules.specs.Plan.{Plan}
 use Rattle.rules.specs.Drawn.{Within}
 use Rattle.rules.specs.Flat.{behind}
-use Rattle.rules.proofs.Choices.{Which, which, yes′, no′, true-false}
-use Rattle.rules.proofs.InTurn.{Chosen, ahead, round}
+use Rattle.rules.proofs.Laws.Passes.{Which, which, yes′, no′, true-false}
+use Rattle.rules.proofs.Flat.InTurn.{Chosen, ahead, round}
 use Rattle.rules.proofs.Control.Intervals.{Clear}
 
 -- the least number from a on of which f holds is one

@@ -7,7 +7,7 @@ use Rattle.rules.specs.Choice.{first}
 use Rattle.rules.specs.Plan.{Plan, Port, node, empty, hub, most-levels}
 use Rattle.rules.specs.Drawn.{Drawn, Within, Hung, Covers}
 use Rattle.rules.specs.Control.{seen, below, shows, lowest}
-use Rattle.rules.proofs.Choices.{Which, which, yes′, no′, Found, missing, lowest as found, first-found}
+use Rattle.rules.proofs.Laws.Passes.{Which, which, yes′, no′, Found, missing, lowest as found, first-found}
 use Rattle.rules.proofs.Control.Intervals.{Counts, Clear, Shown, some, clear, shown-low, shown-counts, shown-clear, shown-all, clear-none, clear-row}
 
 module _ (p : Plan) (D : Drawn p) (f : ℕ → Bool) where

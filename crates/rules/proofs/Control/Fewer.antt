@@ -10,7 +10,7 @@ use Rattle.rules.specs.Call.{Class}
 use Rattle.rules.specs.Machine.{Turn}
 use Rattle.rules.specs.Drawn.{Drawn, Within}
 use Rattle.rules.specs.Control.{Pointer, Control, atPort, marking, shows, lowest, point, handTo, up, walk}
-use Rattle.rules.proofs.Choices.{Which, which, yes′, no′, put-same, put-other}
+use Rattle.rules.proofs.Laws.Passes.{Which, which, yes′, no′, put-same, put-other}
 use Rattle.rules.proofs.Control.Intervals.{Counts, Clear, counts-clear, counts-wider, shown-clear}
 use Rattle.rules.proofs.Control.Cover.{shown, rises, Holds, holds, hangs, Look, nothing, something, look}
 use Rattle.rules.proofs.Control.Pointers.{Chain, root, under, Good, good-from-root, chain-within, chain-level, chain-down, chain-put, chain-marked}

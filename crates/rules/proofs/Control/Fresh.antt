@@ -8,8 +8,8 @@ use Rattle.rules.specs.Plan.{Plan, Port, node, empty, hub, levels}
 use Rattle.rules.specs.Call.{Class}
 use Rattle.rules.specs.Drawn.{Drawn, Within, Covers}
 use Rattle.rules.specs.Control.{Pointer, Control, atPort, marking, lowest, point, granted, walk}
-use Rattle.rules.proofs.Choices.{put-same}
-use Rattle.rules.proofs.InTurn.{ahead}
+use Rattle.rules.proofs.Laws.Passes.{put-same}
+use Rattle.rules.proofs.Flat.InTurn.{ahead}
 use Rattle.rules.proofs.Control.Intervals.{Counts, Clear, counts-clear}
 use Rattle.rules.proofs.Control.Cover.{Holds, holds, Look, nothing, something, look}
 use Rattle.rules.proofs.Control.Pointers.{Chain, root-within, Good, stands, chain-within, chain-put, chain-marked, good-to-root, good-up}

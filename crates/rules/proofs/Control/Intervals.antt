@@ -8,7 +8,7 @@ use lib.Dec.{leb}
 use borrow.Author.Tests.{leb-true, leb-false}
 use Rattle.rules.specs.Choice.{any}
 use Rattle.rules.specs.Drawn.{Within}
-use Rattle.rules.proofs.Choices.{Which, which, yes′, no′, true-false, or-left, or-right, or-both}
+use Rattle.rules.proofs.Laws.Passes.{Which, which, yes′, no′, true-false, or-left, or-right, or-both}
 
 -- f holds of some number above a and up to z
 pub record Counts (f : ℕ → Bool) (a z : ℕ) : Type 0 where

@@ -8,7 +8,7 @@ use Rattle.rules.specs.Call.{Class}
 use Rattle.rules.specs.Machine.{Turn}
 use Rattle.rules.specs.Drawn.{Drawn}
 use Rattle.rules.specs.Control.{Control}
-use Rattle.rules.proofs.InTurn.{Chosen}
+use Rattle.rules.proofs.Flat.InTurn.{Chosen}
 use Rattle.rules.proofs.Control.Pointers.{Chain, Good}
 use Rattle.rules.proofs.Control.Steps.{Others, others-trans}
 

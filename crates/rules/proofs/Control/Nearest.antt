@@ -10,7 +10,7 @@ use borrow.Author.Tests.{ne-eqb, eqb-true, eqb-false}
 use Rattle.rules.specs.Plan.{Plan, most-levels}
 use Rattle.rules.specs.Drawn.{Drawn, Within}
 use Rattle.rules.specs.Control.{Pointer, marking, leadsTo, led, nearest}
-use Rattle.rules.proofs.Choices.{Which, which, yes′, no′, true-false, and-both}
+use Rattle.rules.proofs.Laws.Passes.{Which, which, yes′, no′, true-false, and-both}
 use Rattle.rules.proofs.Control.Cover.{hangs}
 use Rattle.rules.proofs.Control.Pointers.{Chain, root, under}
 

@@ -7,7 +7,7 @@ use Rattle.rules.specs.Choice.{put}
 use Rattle.rules.specs.Plan.{Plan, hub}
 use Rattle.rules.specs.Drawn.{Drawn, Within}
 use Rattle.rules.specs.Control.{Pointer, atPort, marking}
-use Rattle.rules.proofs.Choices.{true-false, put-same, put-other}
+use Rattle.rules.proofs.Laws.Passes.{true-false, put-same, put-other}
 use Rattle.rules.proofs.Control.Cover.{rises, Holds, holds, hangs}
 
 -- every hub above g has its pointer marked and on g's line

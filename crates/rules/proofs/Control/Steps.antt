@@ -8,7 +8,7 @@ use borrow.Author.Tests.{eq-eqb, ne-eqb}
 use Rattle.rules.specs.Plan.{Plan, node, hub}
 use Rattle.rules.specs.Call.{Class, normal, high, same}
 use Rattle.rules.specs.Control.{Pointer, Control, atPort, marking, lowest, point, handTo, granted, up, walk}
-use Rattle.rules.proofs.Choices.{true-false}
+use Rattle.rules.proofs.Laws.Passes.{true-false}
 
 pub same-self : (c : Class) → same c c ≡ true
 same-self normal = refl

@@ -12,7 +12,7 @@ use Rattle.rules.specs.Call.{Class}
 use Rattle.rules.specs.Machine.{Turn}
 use Rattle.rules.specs.Drawn.{Drawn, Within, Covers}
 use Rattle.rules.specs.Control.{Pointer, Control, atPort, marking, lowest, point, handTo, walk}
-use Rattle.rules.proofs.Choices.{Which, which, yes′, no′, put-same, put-other}
+use Rattle.rules.proofs.Laws.Passes.{Which, which, yes′, no′, put-same, put-other}
 use Rattle.rules.proofs.Control.Intervals.{Counts}
 use Rattle.rules.proofs.Control.Cover.{holds, Look, nothing, something, look}
 use Rattle.rules.proofs.Control.Pointers.{Chain, root, chain-within, chain-up, chain-put, chain-marked}

@@ -10,7 +10,7 @@ use Rattle.rules.specs.Plan.{Plan, hub, levels}
 use Rattle.rules.specs.Call.{Class}
 use Rattle.rules.specs.Drawn.{Drawn, Within}
 use Rattle.rules.specs.Control.{Pointer, Control, atPort, marking, lowest, point, up, walk}
-use Rattle.rules.proofs.Choices.{Which, which, yes′, no′, any-some, put-same}
+use Rattle.rules.proofs.Laws.Passes.{Which, which, yes′, no′, any-some, put-same}
 use Rattle.rules.proofs.Control.Intervals.{Clear, clear-narrower}
 use Rattle.rules.proofs.Control.Cover.{rises, Holds, holds, hangs, Look, nothing, something, look}
 use Rattle.rules.proofs.Control.Pointers.{Chain, root, Good, stands, inside, chain-within, chain-level, chain-up, chain-put, chain-marked, good-low, good-up, good-put}

@@ -15,7 +15,7 @@ use Rattle.rules.specs.Machine.{Turn}
 use Rattle.rules.specs.Control as rules
 use Rattle.rules.specs.Control.{Control, climb, turning}
 use Rattle.rules.specs.Drawn.{Within}
-use Rattle.rules.proofs.Choices.{Which, which, yes′, no′}
+use Rattle.rules.proofs.Laws.Passes.{Which, which, yes′, no′}
 use Rattle.rules.proofs.Control.Pointers.{chain-within}
 use Rattle.rules.proofs.Control.Nearest.{nearest-near}
 use Rattle.ports.specs.Mask.{digit}

@@ -8,7 +8,7 @@ use Rattle.rules.specs.Choice.{if_then_else_}
 use Rattle.rules.specs.Plan.{Plan}
 use Rattle.rules.specs.Drawn.{Within}
 use Rattle.rules.specs.Core.{Core, Line, none, nothing-reserved, countsIn}
-use Rattle.rules.proofs.Choices.{sum-same}
+use Rattle.rules.proofs.Laws.Passes.{sum-same}
 use Rattle.ports.specs.Mask.{maskOf, digit}
 use Rattle.state.specs.Layout.{cells, timeAt, clock-cell, holder-cell, class-cell, standing-cell, nodeCell, maskCell, pointerCell, requestCell, classOf, requestOf, shareOf}
 use Rattle.state.specs.Decode.{isNode, lineOf, coreOf}

@@ -9,8 +9,8 @@ use Rattle.rules.specs.Choice.{first}
 use Rattle.rules.specs.Plan.{Plan}
 use Rattle.rules.specs.Drawn.{Within}
 use Rattle.rules.specs.Control.{shows, lowest}
-use Rattle.rules.proofs.Choices as choices
-use Rattle.rules.proofs.Choices.{Which, which, yes′, no′, missing, first-found}
+use Rattle.rules.proofs.Laws.Passes as choices
+use Rattle.rules.proofs.Laws.Passes.{Which, which, yes′, no′, missing, first-found}
 use Rattle.ports.specs.Mask as mask
 use Rattle.ports.specs.Mask.{maskOf}
 use Rattle.ports.specs.Search.{lowestFrom}

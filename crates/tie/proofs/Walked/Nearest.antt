@@ -11,7 +11,7 @@ use Rattle.rules.specs.Choice.{if_then_else_}
 use Rattle.rules.specs.Plan.{Plan, most-levels}
 use Rattle.rules.specs.Drawn.{Drawn, Within}
 use Rattle.rules.specs.Control.{Pointer, leadsTo, led, nearest}
-use Rattle.rules.proofs.Choices.{Which, which, yes′, no′}
+use Rattle.rules.proofs.Laws.Passes.{Which, which, yes′, no′}
 use Rattle.rules.proofs.Control.Cover.{hangs}
 use Rattle.rules.proofs.Control.Nearest.{level-low, root-led, led-step, nearest-here, nearest-above}
 use Rattle.plan.specs.Tables.{planOf}

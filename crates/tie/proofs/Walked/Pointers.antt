@@ -13,7 +13,7 @@ use Rattle.rules.specs.Plan.{Plan}
 use Rattle.rules.specs.Call.{Class, normal, high, same}
 use Rattle.rules.specs.Drawn.{Within}
 use Rattle.rules.specs.Control.{atPort, marking, point, handTo, granted}
-use Rattle.rules.proofs.Choices.{Which, which, yes′, no′, and-both}
+use Rattle.rules.proofs.Laws.Passes.{Which, which, yes′, no′, and-both}
 use Rattle.ports.specs.Mask.{digit}
 use Rattle.state.specs.Layout.{cells, holder-cell, class-cell, pointerCell, classOf, pointerOf, unmarkedCode, markedCode}
 use Rattle.state.specs.Decode.{isHub, isClassHigh, controlOf}

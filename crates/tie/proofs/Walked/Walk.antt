@@ -12,7 +12,7 @@ use Rattle.rules.specs.Plan.{Plan, Port, node, empty, hub, most-levels}
 use Rattle.rules.specs.Drawn.{Within, Hung}
 use Rattle.rules.specs.Machine.{Turn}
 use Rattle.rules.specs.Control.{Pointer, Control, atPort, marking, seen, below, shows, lowest, point, handTo, granted, up, walk}
-use Rattle.rules.proofs.Choices.{Which, which, yes′, no′, true-false}
+use Rattle.rules.proofs.Laws.Passes.{Which, which, yes′, no′, true-false}
 use Rattle.rules.proofs.Control.Steps.{entered, resumed, own, walk-node, walk-afresh, walk-resume, walk-round, walk-up}
 use Rattle.ports.specs.Mask as mask
 use Rattle.ports.specs.Search.{lowestFrom}

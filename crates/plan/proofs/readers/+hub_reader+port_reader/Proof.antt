@@ -6,9 +6,9 @@ use Prim.Native.Nat.{ℕ, _<_, _+_, _-_}
 use mathlib.Core.List.{List}
 use mathlib.Core.Path.{sym, ap, _∙_}
 use Rattle.plan.specs.Readers.{Answered, hubReader, moved, withHub}
-use Rattle.plan.proofs.Tags.{not-close}
-use Rattle.plan.proofs.ReaderLaws.{none-left, unended-stops, done-stops, closes, port-stops, port-read}
-use Rattle.plan.proofs.PortLaws.{port-room, port-node, port-empty, port-close, port-other, no-port, no-hub, no-level, opens}
+use Rattle.plan.proofs.Cited.Tags.{not-close}
+use Rattle.plan.proofs.Cited.ReaderLaws.{none-left, unended-stops, done-stops, closes, port-stops, port-read}
+use Rattle.plan.proofs.Cited.PortLaws.{port-room, port-node, port-empty, port-close, port-other, no-port, no-hub, no-level, opens}
 use borrow.Fn.Kinds.{In}
 use borrow.Fn.PlainCycle.{Measures, is, falls, and}
 use Rattle.plan.proofs.readers.hub_reader.Reads as hub-reader

@@ -1,6 +1,6 @@
 -- `kind_of` meets its contract, by the laws of KindLaws: one a return.
 use mathlib.Core.Path.{sym, _∙_}
-use Rattle.plan.proofs.KindLaws.{kind-close, kind-node, kind-empty, kind-hub, kind-other}
+use Rattle.plan.proofs.Cited.KindLaws.{kind-close, kind-node, kind-empty, kind-hub, kind-other}
 use borrow.Author.Needs.{needs}
 use Rattle.plan.proofs.readers.kind_of.Statement.{statement}
 use Rattle.plan.proofs.readers.kind_of.Tie as tie
