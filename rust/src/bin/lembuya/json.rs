@@ -1,0 +1,68 @@
+//! The log as JSON, one object a line.
+
+use crate::log::{words, Entry};
+use lembuya::{Class, Step};
+
+/// A text as a JSON string.
+pub fn string(text: &str) -> String {
+    let mut json = String::from('"');
+    for letter in text.chars() {
+        match letter {
+            '"' => json += "\\\"",
+            '\\' => json += "\\\\",
+            '\n' => json += "\\n",
+            control if control < ' ' => json += &format!("\\u{:04x}", control as u32),
+            other => json.push(other),
+        }
+    }
+    json + "\""
+}
+
+/// A log's entry as an object. The first entry of a log that refuses speaks of the plan.
+pub fn object(file: &str, entry: &Entry, first: bool) -> String {
+    let fields = match entry {
+        Entry::Taken { nodes, hubs } => format!("\"form\":\"nodes\",\"nodes\":{nodes},\"hubs\":{hubs}"),
+        Entry::Turn(Step::Grant { time, node, class, end, moves }) => {
+            let class = match class {
+                Class::Normal => "normal",
+                Class::High => "high",
+            };
+            format!(
+                "\"form\":\"grant\",\"time\":{time},\"node\":{node},\"class\":\"{class}\",\"end\":{end},\"moves\":{moves}"
+            )
+        }
+        Entry::Turn(Step::Rest { time, moves }) => {
+            format!("\"form\":\"rest\",\"time\":{time},\"moves\":{moves}")
+        }
+        Entry::Turn(Step::Quiet) => unreachable!("the log has no line for quiet"),
+        Entry::Refused { line, number } => {
+            let words = string(&words(*number, first));
+            format!("\"form\":\"refused\",\"line\":{line},\"number\":{number},\"words\":{words}")
+        }
+    };
+    format!("{{\"file\":{},{fields}}}\n", string(file))
+}
+
+#[cfg(test)]
+mod tests {
+    use super::*;
+
+    #[test]
+    fn strings_are_escaped() {
+        assert_eq!(string("a\"b\\c\n\u{1}é"), "\"a\\\"b\\\\c\\n\\u0001é\"");
+    }
+
+    #[test]
+    fn each_form_is_an_object() {
+        let log = b"(nodes 4 hubs 2)\n(refused 15 1)\n(grant 0 1 1 13000 0)\n(rest 20000 0)\n";
+        let log = crate::log::read(log).unwrap();
+        let objects: String = log.iter().map(|entry| object("a", entry, false)).collect();
+        assert_eq!(
+            objects,
+            "{\"file\":\"a\",\"form\":\"nodes\",\"nodes\":4,\"hubs\":2}\n\
+             {\"file\":\"a\",\"form\":\"refused\",\"line\":15,\"number\":1,\"words\":\"no form above, or its LF is missing\"}\n\
+             {\"file\":\"a\",\"form\":\"grant\",\"time\":0,\"node\":1,\"class\":\"normal\",\"end\":13000,\"moves\":0}\n\
+             {\"file\":\"a\",\"form\":\"rest\",\"time\":20000,\"moves\":0}\n"
+        );
+    }
+}

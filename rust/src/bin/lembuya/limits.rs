@@ -1,0 +1,112 @@
+//! `lembuya limits`: what a plan's reservations take of the frame, and what they are promised.
+
+use crate::args::{self, Args, Options, Wrong};
+use crate::shares::{self, Share};
+use crate::text::{Figures, Text};
+use crate::{log, run, End};
+
+pub const OPTIONS: Options = &[];
+
+pub const HELP: &str = "\
+lembuya limits TEXT..
+
+The frame's load and each reserved node's delay limit, by the latest accepted reservations of
+each text: a plan and its events. '-' is standard input. Times are bit times, 10 ns each.
+
+    load          D plus the sum of n x (b + O): at most T, or a reserve is refused by 17
+    share         the node's n x (b + O), and what part of the frame that is
+    delay limit   counted from the frame's start: a node whose request stands from there on has
+                  had its n high packets by then, whatever the others do (demand 3)
+
+A refused line is said on standard error: FILE:LINE: refused NUMBER: the table's words.
+
+Exit status: 0; 1 where a plan is refused; 2 for bad usage.
+";
+
+pub fn command(args: &Args) -> Result<End, Wrong> {
+    let mut end = End::Done;
+    for file in &args.files {
+        let bytes = args::bytes(file)?;
+        let entries = log::read(&lembuya::log(&bytes)).expect("the archive writes a log");
+        run::tell(file, &bytes, &entries);
+        match Text::read(&bytes) {
+            Err(_) => end = End::Refused,
+            Ok(text) => {
+                let shares = shares::reserved(text.nodes, &text.accepted(&entries), u64::MAX);
+                args::print(&page(file, text.figures, &shares))?;
+            }
+        }
+    }
+    Ok(end)
+}
+
+/// The table of one text.
+fn page(file: &str, figures: Figures, shares: &[Share]) -> String {
+    let Figures { frame, overhead, interrupt } = figures;
+    let load = shares::load(figures, shares);
+    let mut page = format!(
+        "{file}: frame {frame} ({} us), overhead {overhead}, interrupt {interrupt}\n\
+         load {load} of {frame} bit times, {} %\n",
+        microseconds(frame),
+        per_cent(load, frame),
+    );
+    let reserved: Vec<usize> = (0..shares.len()).filter(|k| shares[*k].packets > 0).collect();
+    if reserved.is_empty() {
+        return page + "nothing is reserved\n";
+    }
+    page += &row(["node", "n", "b", "share", "share %", "delay limit", "delay limit us"].map(String::from));
+    for k in reserved {
+        let (share, limit) = (shares[k], shares::delay_limit(figures, shares, k));
+        let own = share.load(figures);
+        let numbers = [k as u64 + 1, share.packets, share.bits, own].map(|number| number.to_string());
+        let [node, n, b, own_shown] = numbers;
+        page += &row([node, n, b, own_shown, per_cent(own, frame), limit.to_string(), microseconds(limit)]);
+    }
+    page
+}
+
+/// A line of the table, in columns.
+fn row(cells: [String; 7]) -> String {
+    let [node, n, b, share, part, limit, time] = cells;
+    format!("{node:>4} {n:>3} {b:>6} {share:>8} {part:>8} {limit:>12} {time:>15}\n")
+}
+
+/// Bit times as microseconds: 100 of them are one.
+fn microseconds(time: u64) -> String {
+    format!("{}.{:02}", time / 100, time % 100)
+}
+
+/// A part of a whole in per cent, rounded to two places.
+fn per_cent(part: u64, whole: u64) -> String {
+    let hundredths = (part * 10_000 + whole / 2) / whole;
+    format!("{}.{:02}", hundredths / 100, hundredths % 100)
+}
+
+#[cfg(test)]
+mod tests {
+    use super::*;
+
+    #[test]
+    fn the_examples_page() {
+        let figures = Figures { frame: 100_000, overhead: 1_000, interrupt: 13_000 };
+        let none = Share::default();
+        let shares = [none, none, Share { packets: 2, bits: 4_000 }, none];
+        assert_eq!(
+            page("a", figures, &shares),
+            "a: frame 100000 (1000.00 us), overhead 1000, interrupt 13000\n\
+             load 23000 of 100000 bit times, 23.00 %\n\
+             node   n      b    share  share %  delay limit  delay limit us\n   \
+                3   2   4000    10000    10.00        23000          230.00\n"
+        );
+        assert!(page("a", figures, &[none])
+            .ends_with("load 13000 of 100000 bit times, 13.00 %\nnothing is reserved\n"));
+    }
+
+    #[test]
+    fn figures_are_rounded() {
+        assert_eq!(microseconds(1_011), "10.11");
+        assert_eq!(microseconds(5), "0.05");
+        assert_eq!(per_cent(2, 3), "66.67");
+        assert_eq!(per_cent(1, 3), "33.33");
+    }
+}

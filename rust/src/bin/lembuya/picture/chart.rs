@@ -1,0 +1,367 @@
+//! What a picture shows, in rows and times; nothing of where it stands on the page.
+
+use crate::log::Entry;
+use crate::shares::{self, Share};
+use crate::text::{Event, Figures, Port, Text};
+use lembuya::{Class, Step};
+
+/// A row: a hub, a node, or, where the plan isn't known, control.
+#[derive(Clone, Debug, PartialEq, Eq)]
+pub struct Row {
+    /// How deep it stands in the tree, from 0.
+    pub depth: usize,
+    /// What stands beside it.
+    pub label: String,
+    /// A hub's row, or that of control.
+    pub is_hub: bool,
+}
+
+/// A stretch of time on a row, with what a browser shows of it.
+#[derive(Clone, Debug, PartialEq, Eq)]
+pub struct Bar {
+    pub row: usize,
+    pub from: u64,
+    pub to: u64,
+    pub class: Class,
+    pub title: String,
+}
+
+/// Control with a hub, from an instant to the next.
+#[derive(Clone, Debug, PartialEq, Eq)]
+pub struct Control {
+    pub row: usize,
+    /// The row that had control before.
+    pub before: usize,
+    pub from: u64,
+    pub to: u64,
+    pub moves: u64,
+    pub title: String,
+}
+
+/// The line at rest.
+#[derive(Clone, Debug, PartialEq, Eq)]
+pub struct Rest {
+    pub from: u64,
+    pub to: u64,
+    pub title: String,
+}
+
+/// A mark at a time on a row: a delay limit, or a refused event.
+#[derive(Clone, Debug, PartialEq, Eq)]
+pub struct Mark {
+    pub row: usize,
+    pub at: u64,
+    pub title: String,
+}
+
+/// All that is drawn.
+#[derive(Debug)]
+pub struct Chart {
+    pub title: String,
+    /// The figures in words, or none.
+    pub figures: String,
+    pub from: u64,
+    pub to: u64,
+    pub rows: Vec<Row>,
+    /// Each frame's number and start that lies within the range.
+    pub frames: Vec<(u64, u64)>,
+    pub bars: Vec<Bar>,
+    pub controls: Vec<Control>,
+    pub rests: Vec<Rest>,
+    pub limits: Vec<Mark>,
+    pub refusals: Vec<Mark>,
+}
+
+/// The longest stretch that can be drawn, in frames: a picture with more has no line for each.
+const MOST_FRAMES: u64 = 1_000;
+
+impl Chart {
+    /// The chart of a log between two times; those not given are the start and the end of what happened.
+    pub fn new(
+        title: &str,
+        text: Option<&Text>,
+        entries: &[Entry],
+        from: Option<u64>,
+        to: Option<u64>,
+    ) -> Result<Chart, String> {
+        let accepted = text.map(|text| text.accepted(entries)).unwrap_or_default();
+        let ends = entries.iter().filter_map(|entry| match entry {
+            Entry::Turn(Step::Grant { end, .. }) => Some(*end),
+            Entry::Turn(Step::Rest { time, .. }) => Some(*time),
+            _ => None,
+        });
+        let last = ends.chain(accepted.iter().map(|event| event.time())).max().unwrap_or(0);
+        let from = from.unwrap_or(0);
+        let to = to.unwrap_or(last.max(from + 1));
+        if from >= to {
+            return Err(format!("nothing lies from {from} up to {to}"));
+        }
+        let places = Places::new(text, entries);
+        let mut chart = Chart {
+            title: title.into(),
+            figures: places.figures(text),
+            from,
+            to,
+            rows: places.rows.clone(),
+            frames: Vec::new(),
+            bars: Vec::new(),
+            controls: Vec::new(),
+            rests: Vec::new(),
+            limits: Vec::new(),
+            refusals: Vec::new(),
+        };
+        chart.add_turns(&places, entries, last);
+        if let Some(text) = text {
+            if (to - from) / text.figures.frame > MOST_FRAMES {
+                return Err(format!(
+                    "{} frames are too many for a picture; --from and --to take at most {MOST_FRAMES} of them",
+                    (to - from) / text.figures.frame
+                ));
+            }
+            chart.add_frames(&places, text, &accepted);
+            chart.add_refusals(&places, text, entries);
+        }
+        Ok(chart)
+    }
+
+    /// Whether a stretch of time is in the picture.
+    fn shows(&self, from: u64, to: u64) -> bool {
+        from < self.to && to > self.from
+    }
+
+    fn add_turns(&mut self, places: &Places, entries: &[Entry], last: u64) {
+        let turns: Vec<Step> = entries.iter().filter_map(turn).collect();
+        let starts: Vec<u64> = turns.iter().map(|turn| time(*turn)).chain([last]).collect();
+        let mut before = places.root;
+        if self.shows(0, starts[0]) {
+            let title = "at first the root has control".into();
+            self.controls.push(Control { row: before, before, from: 0, to: starts[0], moves: 0, title });
+        }
+        for (at, turn) in turns.iter().enumerate() {
+            let (from, to) = (starts[at], starts[at + 1].max(starts[at]));
+            let title = turn.to_string();
+            let (row, moves) = match *turn {
+                Step::Grant { node, class, end, moves, .. } => {
+                    let row = places.node[node as usize - 1];
+                    if self.shows(from, end) {
+                        self.bars.push(Bar { row, from, to: end, class, title: title.clone() });
+                    }
+                    (places.holder[node as usize - 1], moves)
+                }
+                Step::Rest { moves, .. } => {
+                    if self.shows(from, to) {
+                        self.rests.push(Rest { from, to, title: title.clone() });
+                    }
+                    (places.root, moves)
+                }
+                Step::Quiet => unreachable!("the log has no line for quiet"),
+            };
+            if self.shows(from, to) {
+                self.controls.push(Control { row, before, from, to, moves, title });
+            }
+            before = row;
+        }
+    }
+
+    /// Frames, and in each the delay limit of every node with a reservation in force.
+    fn add_frames(&mut self, places: &Places, text: &Text, accepted: &[&Event]) {
+        let frame = text.figures.frame;
+        for number in self.from / frame..=(self.to - 1) / frame {
+            let start = number * frame;
+            if start >= self.from {
+                self.frames.push((number, start));
+            }
+            let shares = shares::reserved(text.nodes, accepted, start);
+            for (k, share) in shares.iter().enumerate().filter(|(_, share)| share.packets > 0) {
+                let limit = shares::delay_limit(text.figures, &shares, k);
+                let at = start + limit;
+                if (self.from..=self.to).contains(&at) {
+                    let title = limit_words(k + 1, number, *share, limit, at);
+                    self.limits.push(Mark { row: places.node[k], at, title });
+                }
+            }
+        }
+    }
+
+    fn add_refusals(&mut self, places: &Places, text: &Text, entries: &[Entry]) {
+        for entry in entries {
+            let Entry::Refused { line, number } = entry else { continue };
+            let Some(event) = text.events.iter().find(|event| event.line == *line) else { continue };
+            let row =
+                event.node().filter(|node| (1..=text.nodes).contains(node)).map(|node| places.node[node - 1]);
+            if let (Some(row), true) = (row, (self.from..self.to).contains(&event.time())) {
+                let title = format!("(refused {line} {number}): {}", crate::log::words(*number, false));
+                self.refusals.push(Mark { row, at: event.time(), title });
+            }
+        }
+    }
+}
+
+fn limit_words(node: usize, frame: u64, share: Share, limit: u64, at: u64) -> String {
+    let Share { packets, bits } = share;
+    format!(
+        "node {node}, frame {frame}: delay limit {limit} bit times, to {at} ({packets} packets of at most {bits} bits)"
+    )
+}
+
+fn turn(entry: &Entry) -> Option<Step> {
+    match entry {
+        Entry::Turn(turn) => Some(*turn),
+        _ => None,
+    }
+}
+
+fn time(turn: Step) -> u64 {
+    match turn {
+        Step::Grant { time, .. } | Step::Rest { time, .. } => time,
+        Step::Quiet => unreachable!("the log has no line for quiet"),
+    }
+}
+
+/// Which row is whose.
+struct Places {
+    rows: Vec<Row>,
+    /// The row of node k stands at k - 1.
+    node: Vec<usize>,
+    /// The row of its hub, which has control when it is granted.
+    holder: Vec<usize>,
+    root: usize,
+}
+
+impl Places {
+    fn new(text: Option<&Text>, entries: &[Entry]) -> Places {
+        match (text, entries.first()) {
+            (Some(text), _) => Places::of_tree(&text.ports),
+            (None, Some(Entry::Taken { nodes, .. })) => Places::of_nodes(*nodes as usize),
+            _ => unreachable!("a log of a taken plan says how many nodes there are"),
+        }
+    }
+
+    fn of_tree(ports: &[Port]) -> Places {
+        let mut places = Places { rows: Vec::new(), node: Vec::new(), holder: Vec::new(), root: 0 };
+        let mut hubs = Vec::new();
+        for (row, port) in ports.iter().enumerate() {
+            let (depth, label, is_hub) = match port {
+                Port::Hub { hub, level } => {
+                    hubs.push(row);
+                    (level - 1, format!("hub {hub}"), true)
+                }
+                Port::Node { node, hub, level } => {
+                    places.node.push(row);
+                    places.holder.push(hubs[hub - 1]);
+                    (*level, format!("node {node}"), false)
+                }
+            };
+            places.rows.push(Row { depth, label, is_hub });
+        }
+        places
+    }
+
+    /// Without a plan: control, and the nodes one below the other.
+    fn of_nodes(nodes: usize) -> Places {
+        let control = Row { depth: 0, label: "moves".into(), is_hub: true };
+        let node = (1..=nodes).map(|node| Row { depth: 1, label: format!("node {node}"), is_hub: false });
+        Places {
+            rows: [control].into_iter().chain(node).collect(),
+            node: (1..=nodes).collect(),
+            holder: vec![0; nodes],
+            root: 0,
+        }
+    }
+
+    fn figures(&self, text: Option<&Text>) -> String {
+        let hubs = self.rows.iter().filter(|row| row.is_hub).count();
+        match text {
+            None => format!("{} nodes; times in bit times (10 ns)", self.node.len()),
+            Some(Text { figures: Figures { frame, overhead, interrupt }, .. }) => format!(
+                "{} nodes, {hubs} hubs; frame {frame}, overhead {overhead}, interrupt {interrupt} bit times (10 ns)",
+                self.node.len()
+            ),
+        }
+    }
+}
+
+#[cfg(test)]
+mod tests {
+    use super::*;
+
+    const EXAMPLE: &[u8] = include_bytes!("../../../../../examples/example.text");
+
+    fn example(from: Option<u64>, to: Option<u64>) -> Chart {
+        let entries = crate::log::read(&lembuya::log(EXAMPLE)).unwrap();
+        Chart::new("example", Some(&Text::read(EXAMPLE).unwrap()), &entries, from, to).unwrap()
+    }
+
+    #[test]
+    fn rows_are_in_line_order() {
+        let labels: Vec<_> = example(None, None).rows.iter().map(|row| row.label.clone()).collect();
+        assert_eq!(labels, ["hub 1", "node 1", "hub 2", "node 2", "node 3", "node 4"]);
+    }
+
+    #[test]
+    fn every_grant_is_a_bar_on_its_nodes_row() {
+        let bars = example(None, None).bars;
+        let places: Vec<_> = bars.iter().map(|bar| (bar.row, bar.from, bar.to, bar.class.number())).collect();
+        let (low, high) = (1, 2);
+        assert_eq!(
+            places,
+            [
+                (1, 0, 13_000, low),
+                (5, 13_000, 20_000, low),
+                (3, 99_000, 112_000, low),
+                (4, 112_000, 117_000, high),
+                (1, 117_000, 119_000, low)
+            ]
+        );
+        assert_eq!(bars[3].title, "(grant 112000 3 2 117000 2)");
+    }
+
+    #[test]
+    fn control_stands_with_the_granted_nodes_hub_and_at_rest_with_the_root() {
+        let controls = example(None, None).controls;
+        let places: Vec<_> = controls.iter().map(|c| (c.before, c.row, c.from, c.to, c.moves)).collect();
+        assert_eq!(
+            places,
+            [
+                (0, 0, 0, 13_000, 0),
+                (0, 0, 13_000, 20_000, 0),
+                (0, 0, 20_000, 99_000, 0),
+                (0, 2, 99_000, 112_000, 1),
+                (2, 2, 112_000, 117_000, 2),
+                (2, 0, 117_000, 119_000, 1),
+                (0, 0, 119_000, 200_000, 0)
+            ]
+        );
+    }
+
+    #[test]
+    fn rests_frames_limits_and_refusals_stand_at_their_times() {
+        let chart = example(None, None);
+        let rests: Vec<_> = chart.rests.iter().map(|rest| (rest.from, rest.to)).collect();
+        assert_eq!(rests, [(20_000, 99_000), (119_000, 200_000)]);
+        assert_eq!(chart.frames, [(0, 0), (1, 100_000)]);
+        // In frame 1: D + 2 × (4,000 + 1,000), of node 3 alone.
+        assert_eq!(chart.limits.iter().map(|mark| (mark.row, mark.at)).collect::<Vec<_>>(), [(4, 123_000)]);
+        assert_eq!(chart.refusals.iter().map(|mark| (mark.row, mark.at)).collect::<Vec<_>>(), [(4, 0)]);
+        assert!(chart.refusals[0].title.starts_with("(refused 15 16): "));
+    }
+
+    #[test]
+    fn a_range_leaves_out_what_lies_outside() {
+        let chart = example(Some(112_000), Some(119_000));
+        let starts: Vec<_> = chart.bars.iter().map(|bar| bar.from).collect();
+        assert_eq!(starts, [112_000, 117_000]);
+        assert!(chart.rests.is_empty() && chart.limits.is_empty() && chart.frames.is_empty());
+        let entries = crate::log::read(&lembuya::log(EXAMPLE)).unwrap();
+        assert!(Chart::new("", None, &entries, Some(5), Some(5)).is_err());
+    }
+
+    #[test]
+    fn a_log_alone_has_rows_for_its_nodes() {
+        let entries = crate::log::read(&lembuya::log(EXAMPLE)).unwrap();
+        let chart = Chart::new("", None, &entries, None, None).unwrap();
+        assert_eq!(chart.rows.len(), 5);
+        assert_eq!(chart.bars.len(), 5);
+        assert!(chart.frames.is_empty() && chart.limits.is_empty());
+    }
+}

@@ -1,0 +1,61 @@
+//! `lembuya run`: texts to logs.
+
+use crate::args::{self, Args, Options, Wrong};
+use crate::log::{self, Entry};
+use crate::{json, End};
+
+pub const OPTIONS: Options = &[("--json", false), ("--quiet", false)];
+
+pub const HELP: &str = "\
+lembuya run [--json] [--quiet] TEXT..
+
+The log of each text, on standard output. TEXT holds a plan and events; '-' is standard input.
+Of more than one text each log has a line '==> FILE <==' above it, as 'head' writes it.
+
+    --json     one object a line: file, form (nodes, grant, rest or refused) and the form's values
+    --quiet    don't say on standard error which lines are refused, and why
+
+Every refused line is said on standard error: FILE:LINE: refused NUMBER: the table's words.
+Of a text at most 65,536 bytes are looked at.
+
+Exit status: 0; 1 where a plan is refused (a refused event is no error); 2 for bad usage.
+";
+
+pub fn command(args: &Args) -> Result<End, Wrong> {
+    let mut end = End::Done;
+    for file in &args.files {
+        let bytes = args::bytes(file)?;
+        let written = lembuya::log(&bytes);
+        let entries = log::read(&written).expect("the archive writes a log");
+        if args.has("--json") {
+            let objects = entries.iter().enumerate().map(|(at, entry)| json::object(file, entry, at == 0));
+            args::print(&objects.collect::<String>())?;
+        } else {
+            if args.files.len() > 1 {
+                args::print(&format!("==> {file} <==\n"))?;
+            }
+            args::print(&String::from_utf8_lossy(&written))?;
+        }
+        if !args.has("--quiet") {
+            tell(file, &bytes, &entries);
+        }
+        if matches!(entries[0], Entry::Refused { .. }) {
+            end = End::Refused;
+        }
+    }
+    Ok(end)
+}
+
+/// Says which lines of a text are refused, and why.
+pub fn tell(file: &str, bytes: &[u8], entries: &[Entry]) {
+    let lines: Vec<&[u8]> = bytes.split(|byte| *byte == b'\n').collect();
+    for (at, entry) in entries.iter().enumerate() {
+        if let Entry::Refused { line, number } = entry {
+            let words = log::words(*number, at == 0);
+            let shown =
+                usize::try_from(*line).ok().and_then(|line| lines.get(line - 1)).copied().unwrap_or_default();
+            let shown: String = String::from_utf8_lossy(shown).chars().take(80).collect();
+            eprintln!("{file}:{line}: refused {number}: {words}: {}", shown.escape_debug());
+        }
+    }
+}

@@ -1,0 +1,128 @@
+//! The command `lembuya` as a caller meets it: what it writes where, and its exit status.
+
+use std::io::Write;
+use std::process::{Command, Output, Stdio};
+
+const EXAMPLE: &str = concat!(env!("CARGO_MANIFEST_DIR"), "/../examples/example.text");
+const LOG: &str = include_str!("../../examples/example.log");
+
+/// What the command did with words and standard input: status, standard output and standard error.
+fn lembuya(words: &[&str], stdin: &str) -> (i32, String, String) {
+    let mut command = Command::new(env!("CARGO_BIN_EXE_lembuya"));
+    command.args(words).stdin(Stdio::piped()).stdout(Stdio::piped()).stderr(Stdio::piped());
+    let mut child = command.spawn().unwrap();
+    // A command that doesn't read its standard input may be gone already.
+    let _ = child.stdin.take().unwrap().write_all(stdin.as_bytes());
+    let Output { status, stdout, stderr } = child.wait_with_output().unwrap();
+    let text = |bytes| String::from_utf8(bytes).unwrap();
+    (status.code().unwrap(), text(stdout), text(stderr))
+}
+
+fn example() -> String {
+    std::fs::read_to_string(EXAMPLE).unwrap()
+}
+
+#[test]
+fn run_writes_the_log_and_says_what_is_refused() {
+    let (status, out, err) = lembuya(&["run", EXAMPLE], "");
+    assert_eq!((status, out.as_str()), (0, LOG));
+    assert_eq!(
+        err,
+        format!(
+            "{EXAMPLE}:15: refused 16: n in force at t is 0, or b above the b in force: (high 0 3 4000)\n"
+        )
+    );
+    assert_eq!(lembuya(&["run", "--quiet", "-"], &example()), (0, LOG.into(), String::new()));
+}
+
+#[test]
+fn several_texts_have_a_heading_each_and_one_refused_plan_is_status_1() {
+    let (status, out, err) = lembuya(&["run", "-", EXAMPLE], "(frame 1)\n");
+    assert_eq!(status, 1);
+    assert_eq!(out, format!("==> - <==\n(refused 1 2)\n==> {EXAMPLE} <==\n{LOG}"));
+    assert!(err.starts_with("-:1: refused 2: T, O or D out of range: (frame 1)\n"), "{err}");
+}
+
+#[test]
+fn json_is_one_object_a_line() {
+    let (status, out, _) = lembuya(&["run", "--json", "-"], &example());
+    assert_eq!((status, out.lines().count()), (0, LOG.lines().count()));
+    assert_eq!(out.lines().next(), Some("{\"file\":\"-\",\"form\":\"nodes\",\"nodes\":4,\"hubs\":2}"));
+    assert!(out.lines().all(|line| line.starts_with("{\"file\":\"-\",\"form\":\"") && line.ends_with('}')));
+}
+
+#[test]
+fn limits_are_document_01s() {
+    let text = example().replace("(normal 0 1 12000)", "(reserve 0 1 1 11000)");
+    let (status, out, _) = lembuya(&["limits", "-"], &text);
+    assert_eq!(status, 0);
+    let lines: Vec<Vec<&str>> = out.lines().map(|line| line.split_whitespace().collect()).collect();
+    // D + 12,000 + 2 × 5,000; node 1: D + 12,000 + 1 × 5,000; node 3: D + 2 × 5,000 + 1 × 12,000.
+    assert_eq!(lines[1], ["load", "35000", "of", "100000", "bit", "times,", "35.00", "%"]);
+    assert_eq!(lines[3], ["1", "1", "11000", "12000", "12.00", "30000", "300.00"]);
+    assert_eq!(lines[4], ["3", "2", "4000", "10000", "10.00", "35000", "350.00"]);
+    assert_eq!(lembuya(&["limits", "-"], "(hub\n").0, 1);
+}
+
+#[test]
+fn a_picture_has_each_grant_of_the_log_once() {
+    let (status, out, err) = lembuya(&["picture", EXAMPLE], "");
+    assert_eq!((status, err.as_str()), (0, ""));
+    for line in LOG.lines().filter(|line| line.starts_with("(grant")) {
+        let class = if line.split(' ').nth(3) == Some("2") { "high" } else { "normal" };
+        let bars = out.lines().filter(|bar| bar.starts_with(&format!("<rect class=\"{class}\"")));
+        assert_eq!(bars.filter(|bar| bar.contains(&format!("<title>{line}</title>"))).count(), 1, "{line}");
+    }
+    // A log that is handed over is drawn as the one that is made; alone it has no frames.
+    let log = concat!(env!("CARGO_MANIFEST_DIR"), "/../examples/example.log");
+    assert_eq!(lembuya(&["picture", EXAMPLE, log], "").1, out);
+    let (status, alone, _) = lembuya(&["picture", log], "");
+    assert_eq!(status, 0);
+    assert!(alone.contains("<title>(grant 0 1 1 13000 0)</title>") && !alone.contains("frame 0"));
+    assert!(out.contains(">frame 0<"));
+}
+
+#[test]
+fn a_picture_of_a_part_shows_that_part() {
+    let (status, out, _) = lembuya(&["picture", "--from", "112000", "--to=119,000", EXAMPLE], "");
+    assert_eq!(status, 0);
+    assert!(out.contains("(grant 112000 3 2 117000 2)") && !out.contains("(grant 0 1 1 13000 0)"));
+}
+
+#[test]
+fn bad_usage_is_status_2_and_help_is_0() {
+    let refused: &[&[&str]] = &[
+        &[],
+        &["draw"],
+        &["run"],
+        &["run", "--fast", EXAMPLE],
+        &["run", "--json=1", EXAMPLE],
+        &["run", "/no/such/file"],
+        &["run", "-", "-"],
+        &["picture", EXAMPLE, EXAMPLE],
+        &["picture", "--from", "x", EXAMPLE],
+        &["picture", "--from", "5", "--to", "5", EXAMPLE],
+        &["picture", "--from", EXAMPLE],
+    ];
+    for words in refused {
+        let (status, out, err) = lembuya(words, "");
+        assert_eq!((status, out.as_str()), (2, ""), "{words:?}");
+        assert!(err.starts_with("lembuya: "), "{words:?}: {err}");
+    }
+    for command in ["run", "limits", "picture"] {
+        let (status, out, err) = lembuya(&[command, "--help"], "");
+        assert_eq!((status, err.as_str()), (0, ""));
+        assert!(out.starts_with(&format!("lembuya {command} ")));
+    }
+    assert_eq!(lembuya(&["--help"], "").0, 0);
+}
+
+#[test]
+fn a_log_of_another_plan_is_no_log_of_this_one() {
+    let (status, _, err) = lembuya(&["picture", EXAMPLE, "-"], "(nodes 5 hubs 2)\n");
+    assert_eq!((status, err.as_str()), (2, "lembuya: -:1: the plan has another number of nodes than 5\n"));
+    let (status, _, err) = lembuya(&["picture", "-"], "(nodes 4 hubs 2)\n(grant 0 5 1 13000 0)\n");
+    assert_eq!((status, err.as_str()), (2, "lembuya: -:2: there is no node 5\n"));
+    let (status, _, err) = lembuya(&["picture", "-"], "(nodes 4 hubs 2)\n(grand 0 5 1 13000 0)\n");
+    assert_eq!((status, err.as_str()), (2, "lembuya: -:2: that is no line of a log\n"));
+}

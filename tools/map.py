@@ -1,0 +1,214 @@
+#!/usr/bin/env python3
+"""Keeps docs/MAP.md and docs/pictures/map.svg: the crates in layers, and the theorems that document 01's sentences rest on.
+
+    python3 tools/map.py            writes both anew
+    python3 tools/map.py --check    fails if they are stale, or if a link of README.md, docs/ or docs/landings/ leads nowhere
+
+The words of the map stand in tools/map.template.md. There {{FILE NAME}} becomes a link to where NAME is declared in FILE, {{FILE}} one to the file,
+{{stands FILE}} links to the files of proofs/ that FILE's `use` lines name, and {{crates}} the table of crates.
+"""
+import html
+import pathlib
+import re
+import sys
+
+ROOT = pathlib.Path(__file__).resolve().parent.parent
+MAP, PICTURE = ROOT / 'docs/MAP.md', ROOT / 'docs/pictures/map.svg'
+
+
+def crate_names():
+    lines = (ROOT / 'crates.txt').read_text().splitlines()
+    return [line.split(':')[0] for line in lines if line and not line.startswith('#')]
+
+
+CRATES = crate_names()
+
+
+def root_file(crate):
+    """The crate's src/lib.rt, or its src/main.rt."""
+    library = ROOT / 'crates' / crate / 'src/lib.rt'
+    return library if library.exists() else library.with_name('main.rt')
+
+
+def used_by(crate):
+    """The crates that a crate's files name in `use` lines, or by a path in code."""
+    names = set()
+    for file in (ROOT / 'crates' / crate).rglob('*'):
+        if file.suffix == '.antt':
+            names |= set(re.findall(r'^(?:pub )?use Rattle·([a-z_]+)', file.read_text(), re.M))
+        elif file.suffix == '.rt':
+            code = re.sub(r'//.*', '', file.read_text())
+            names |= set(re.findall(r'\bRattle·([a-z_]+)', code)) | set(re.findall(r'\b([a-z_]+)::', code))
+    return {name for name in names if name in CRATES and name != crate}
+
+
+USES = {crate: used_by(crate) for crate in CRATES}
+
+
+def layer(crate):
+    return 1 + max((layer(other) for other in USES[crate]), default=-1)
+
+
+def reaches(crate):
+    """All crates that a crate stands on."""
+    found = set(USES[crate])
+    for other in USES[crate]:
+        found |= reaches(other)
+    return found
+
+
+def nearest(crate):
+    """The crates that a crate uses and that none of the others it uses stands on."""
+    return sorted(other for other in USES[crate] if not any(other in reaches(third) for third in USES[crate] - {other}))
+
+
+def says(crate):
+    """The first sentence of the comment at the head of a crate's file."""
+    words = []
+    for line in root_file(crate).read_text().splitlines():
+        if not line.startswith('//'):
+            break
+        words.append(line[2:].strip())
+    return re.split(r'(?<=[a-z0-9)`/])\.(?: |$)', ' '.join(words))[0] + '.'
+
+
+def kind(crate):
+    code = re.sub(r'//.*', '', root_file(crate).read_text()).strip()
+    if root_file(crate).name == 'main.rt':
+        return 'program'
+    return 'code' if code else 'theory'
+
+
+def link(file, words, line=None):
+    where = ROOT / file
+    if not where.exists():
+        sys.exit(f'map: there is no {file}')
+    return f'[{words}](../{file}' + (f'#L{line})' if line else ')')
+
+
+def declared(file, name):
+    """The line of a file that declares a name."""
+    before = r'(?:abbrev +|unfoldable +)*(?:pub +)?(?:abbrev +)?(?:extern "C" +)?(?:record +|data +|fn +)?'
+    pattern = re.compile(r'^ *' + before + re.escape(name) + r'(?=[ (]|:)')
+    lines = (ROOT / file).read_text().splitlines()
+    found = [number for number, line in enumerate(lines, 1) if pattern.match(line) and ('pub ' in line or 'record ' in line)]
+    if not found:
+        sys.exit(f'map: {file} declares no {name}')
+    return found[0]
+
+
+def stands_on(file):
+    """Links to the files of proofs/ that a file's `use` lines name."""
+    own = file.split('/')[1]
+    links = []
+    for crate, other, module in re.findall(r'^use Rattle·([a-z]+)(·proofs\.proofs|\.proofs)\.([A-Za-z0-9.]+?)(?:\.\{| as |$)',
+                                           (ROOT / file).read_text(), re.M):
+        at = f'crates/{crate}/proofs/{module.replace(".", "/")}.antt'
+        words = module if crate == own else f'{crate} {module}'
+        if (ROOT / at).exists():
+            links.append(link(at, words))
+    return ', '.join(dict.fromkeys(links)) or 'definitions alone'
+
+
+def table():
+    rows = ['| layer | crate | what it is | it uses at first hand |', '|---|---|---|---|']
+    for crate in sorted(CRATES, key=lambda crate: (-layer(crate), CRATES.index(crate))):
+        file = str(root_file(crate).relative_to(ROOT))
+        rows.append(f'| {layer(crate)} | {link(file, f"`{crate}`")} | {says(crate)} | {", ".join(nearest(crate)) or "-"} |')
+    return '\n'.join(rows)
+
+
+def filled(template):
+    def fill(match):
+        words = match[1].split(' ')
+        if words == ['crates']:
+            return table()
+        if words[0] == 'stands':
+            return stands_on(words[1])
+        if len(words) == 1:
+            return link(words[0], f'`{words[0]}`')
+        return link(words[0], f'`{words[1]}`', declared(*words))
+    return re.sub(r'\{\{(.+?)\}\}', fill, template)
+
+
+# The picture: a row for each layer, the lowest at the foot; a line for each use at first hand.
+
+STYLE = '''text{font-family:sans-serif;font-size:13px;fill:#222;text-anchor:middle}
+.small{font-size:11px;text-anchor:start}
+.use{fill:none;stroke:#999;stroke-width:1.2}
+.code{fill:#cfe6f5;stroke:#0072b2}
+.theory{fill:#fdebc4;stroke:#e69f00}
+.program{fill:#e4e4e4;stroke:#444}
+'''
+
+
+def picture():
+    rows = {}
+    for crate in CRATES:
+        rows.setdefault(layer(crate), []).append(crate)
+    top, width = max(rows), 1080
+    at = {}
+    for depth, crates in sorted(rows.items()):
+        # Each stands near what it uses, so that lines are short.
+        crates.sort(key=lambda crate: sum(at[other][0] for other in nearest(crate)) / max(1, len(nearest(crate))))
+        for place, crate in enumerate(crates):
+            at[crate] = (width * (place + 1) / (len(crates) + 1), 60 + 70 * (top - depth))
+    height = 60 + 70 * top + 60
+    out = [f'<svg xmlns="http://www.w3.org/2000/svg" width="{width}" height="{height}" viewBox="0 0 {width} {height}">',
+           '<title>The crates in layers</title>', f'<style>\n{STYLE}</style>', f'<rect width="{width}" height="{height}" fill="#fff"/>']
+    for place, (name, words) in enumerate([('code', 'code, proved'), ('theory', 'definitions and theorems alone'), ('program', 'program')]):
+        out.append(f'<rect class="{name}" x="{14 + 250 * place}" y="12" width="18" height="14" rx="3"/>'
+                   f'<text class="small" x="{40 + 250 * place}" y="23">{words}</text>')
+    for crate in CRATES:
+        x, y = at[crate]
+        for other in nearest(crate):
+            to, foot = at[other]
+            out.append(f'<path class="use" d="M{x:.0f} {y + 15:.0f}C{x:.0f} {y + 45:.0f} {to:.0f} {foot - 45:.0f} {to:.0f} {foot - 15:.0f}">'
+                       f'<title>{crate} uses {other}</title></path>')
+    for crate in CRATES:
+        x, y = at[crate]
+        wide = 24 + 8 * len(crate)
+        out.append(f'<g><title>{crate}: {html.escape(says(crate))}</title><rect class="{kind(crate)}" x="{x - wide / 2:.0f}" y="{y - 15:.0f}" '
+                   f'width="{wide}" height="30" rx="6"/><text x="{x:.0f}" y="{y + 5:.0f}">{crate}</text></g>')
+    return '\n'.join(out) + '\n</svg>\n'
+
+
+def broken_links():
+    """Links in the papers to files, or lines of files, that aren't there. What ../shared has is looked at only where it is there."""
+    broken = []
+    for paper in [ROOT / 'README.md', *sorted((ROOT / 'docs').rglob('*.md'))]:
+        for target in re.findall(r'\]\(([^)\s]+)\)', re.sub(r'`[^`\n]*`', '', paper.read_text())):
+            file, _, mark = target.partition('#')
+            if re.match(r'[a-z]+:', target) or not file:
+                continue
+            where = (paper.parent / file).resolve()
+            if not where.is_relative_to(ROOT):
+                if not (ROOT.parent / 'shared').exists():
+                    continue
+            lines = re.fullmatch(r'L(\d+)', mark)
+            if not where.exists() or lines and int(lines[1]) > len(where.read_text().splitlines()):
+                broken.append(f'{paper.relative_to(ROOT)}: {target}')
+    return broken
+
+
+def main():
+    template = (ROOT / 'tools/map.template.md').read_text()
+    made = {MAP: filled(template), PICTURE: picture()}
+    if '--check' not in sys.argv:
+        for file, text in made.items():
+            file.parent.mkdir(exist_ok=True)
+            file.write_text(text)
+        return 0
+    stale = [str(file.relative_to(ROOT)) for file, text in made.items() if not file.exists() or file.read_text() != text]
+    for file in stale:
+        print(f"map: {file} is stale; 'python3 tools/map.py' writes it anew")
+    broken = broken_links()
+    for target in broken:
+        print(f'map: this link leads nowhere: {target}')
+    if not stale and not broken:
+        print(f'map: docs/MAP.md is that of {len(CRATES)} crates, and every link of the papers leads somewhere')
+    return 1 if stale or broken else 0
+
+
+if __name__ == '__main__':
+    sys.exit(main())
