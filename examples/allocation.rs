@@ -78,52 +78,68 @@ fn table() -> Result<String, Box<dyn std::error::Error>> {
     Ok(table)
 }
 
+/// Where a packet size and a rate stand in the plot.
+fn place(size: u64, rate: f64) -> (f64, f64) {
+    (60.0 + size as f64 * 0.4, 340.0 - rate * 3.0)
+}
+
 /// Mbit/s over the packet size: a point for each size, a ring for each printed figure.
 fn plot() -> Result<String, Box<dyn std::error::Error>> {
-    let x = |size: u64| 60.0 + size as f64 * 0.4;
-    let y = |rate: f64| 340.0 - rate * 3.0;
-    let mut marks = String::new();
-    for rate in (0..=100).step_by(20) {
-        let y = y(rate.into());
-        marks += &format!("<path class=\"grid\" d=\"M60 {y}H670\"/><text class=\"left\" x=\"54\" y=\"{}\">{rate}</text>\n", y + 4.0);
-    }
-    for size in (0..=1_500).step_by(250) {
-        marks += &format!(
-            "<text class=\"mid\" x=\"{:.1}\" y=\"356\">{size}</text>\n",
-            x(size)
-        );
-    }
-    let mut line = String::new();
+    let (mut line, mut marks) = (String::new(), axes());
     for size in SIZES {
         let rate = rate(size, allocate(size)?.1);
-        line += &format!(
-            "{}{:.1} {:.1}",
-            if line.is_empty() { 'M' } else { 'L' },
-            x(size),
-            y(rate)
-        );
-        marks += &format!(
-            "<circle class=\"own\" cx=\"{:.1}\" cy=\"{:.1}\" r=\"4\"><title>{size} bytes: {rate:.2} Mbit/s granted</title></circle>\n",
-            x(size),
-            y(rate)
+        let (x, y) = place(size, rate);
+        line += &format!("{}{x:.1} {y:.1}", if line.is_empty() { 'M' } else { 'L' });
+        marks += &circle(
+            "own",
+            4,
+            (x, y),
+            &format!("{size} bytes: {rate:.2} Mbit/s granted"),
         );
     }
     for (size, rate) in PRINTED {
-        marks += &format!(
-            "<circle class=\"printed\" cx=\"{:.1}\" cy=\"{:.1}\" r=\"8\"><title>000 prints {rate} at {size} bytes</title></circle>\n",
-            x(size),
-            y(rate)
+        marks += &circle(
+            "printed",
+            8,
+            place(size, rate),
+            &format!("000 prints {rate} at {size} bytes"),
         );
     }
     Ok(format!(
         "<svg xmlns=\"http://www.w3.org/2000/svg\" width=\"700\" height=\"390\" viewBox=\"0 0 700 390\">\n\
-         <title>What the hub grants before it says 17</title>\n<style>\n\
-         text{{font-family:sans-serif;font-size:12px;fill:#222}}.left{{text-anchor:end}}.mid{{text-anchor:middle}}\n\
-         .head{{font-size:15px;font-weight:bold}}.grid{{stroke:#ddd}}.line{{fill:none;stroke:#0072b2}}\n\
-         .own{{fill:#0072b2}}.printed{{fill:none;stroke:#e69f00;stroke-width:2.5}}\n</style>\n\
+         <title>What the hub grants before it says 17</title>\n<style>\n{STYLE}</style>\n\
          <rect width=\"700\" height=\"390\" fill=\"#fff\"/>\n\
          <text class=\"head\" x=\"60\" y=\"20\">What the hub grants before it says 17, in Mbit/s</text>\n\
          {marks}<path class=\"line\" d=\"{line}\"/>\n\
          <text class=\"mid\" x=\"365\" y=\"378\">packet size in bytes; rings: what source document 000 prints</text>\n</svg>\n"
     ))
+}
+
+const STYLE: &str = "\
+text{font-family:sans-serif;font-size:12px;fill:#222}.left{text-anchor:end}.mid{text-anchor:middle}
+.head{font-size:15px;font-weight:bold}.grid{stroke:#ddd}.line{fill:none;stroke:#0072b2}
+.own{fill:#0072b2}.printed{fill:none;stroke:#e69f00;stroke-width:2.5}
+";
+
+/// Lines for each 20 Mbit/s, and the sizes below.
+fn axes() -> String {
+    let mut axes = String::new();
+    for rate in (0..=100).step_by(20) {
+        let (_, y) = place(0, rate.into());
+        let text = y + 4.0;
+        axes += &format!(
+            "<path class=\"grid\" d=\"M60 {y}H670\"/><text class=\"left\" x=\"54\" y=\"{text}\">{rate}</text>\n"
+        );
+    }
+    for size in (0..=1_500).step_by(250) {
+        axes += &format!(
+            "<text class=\"mid\" x=\"{:.1}\" y=\"356\">{size}</text>\n",
+            place(size, 0.0).0
+        );
+    }
+    axes
+}
+
+fn circle(class: &str, radius: u64, (x, y): (f64, f64), title: &str) -> String {
+    format!("<circle class=\"{class}\" cx=\"{x:.1}\" cy=\"{y:.1}\" r=\"{radius}\"><title>{title}</title></circle>\n")
 }

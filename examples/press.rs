@@ -20,34 +20,44 @@ const INK_DRIVES: [u64; 6] = [4, 6, 8, 10, 12, 14];
 
 fn main() -> Result<(), Box<dyn std::error::Error>> {
     let unit = "(hub\n(node)\n(node)\n)\n".repeat(6);
-    let text = format!(
-        "(frame {FRAME})\n(overhead 1011)\n(interrupt 13011)\n(hub\n(node)\n(node)\n{unit})\n"
+    let figures = format!(
+        "(frame {FRAME})\n(overhead {OVERHEAD})\n(interrupt {})\n",
+        12_000 + OVERHEAD
     );
-    let mut hall = Hall::new(&Plan::read(text.as_bytes())?);
+    let plan = format!("{figures}(hub\n(node)\n(node)\n{unit})\n");
+    let mut hall = Hall::new(&Plan::read(plan.as_bytes())?);
     for camera in CAMERAS {
         hall.reserve(camera, 2, 4_000)?;
     }
     // The proof image starts in frame 0 and fills every gap that the others leave.
     hall.arrive(50_000, PROOF, Class::Normal, 60, 12_000);
-    for frame in 1..FRAMES {
-        let start = frame * FRAME;
-        for camera in CAMERAS {
-            hall.arrive(start, camera, Class::High, 2, 4_000);
-        }
-        // What the cameras found goes to the ink drives and to the console, which answer in their own time.
-        hall.arrive(start + 90_000, CONSOLE, Class::Normal, 1, 8_000);
-        for (unit, drive) in INK_DRIVES.into_iter().enumerate() {
-            hall.arrive(
-                start + 100_000 + 9_000 * unit as u64,
-                drive,
-                Class::Normal,
-                1,
-                1_024,
-            );
-        }
-    }
+    (1..FRAMES).for_each(|frame| arrivals(&mut hall, frame * FRAME));
     hall.run(FRAMES * FRAME)?;
-    print!("{text}{}", hall.lines);
+    print!("{plan}{}", hall.lines);
+    eprintln!("{}", lateness(&hall));
+    Ok(())
+}
+
+/// What comes in a frame that starts at `start`.
+fn arrivals(hall: &mut Hall, start: u64) {
+    for camera in CAMERAS {
+        hall.arrive(start, camera, Class::High, 2, 4_000);
+    }
+    // What the cameras found goes to the console and to the ink drives, which answer in their own time.
+    hall.arrive(start + 90_000, CONSOLE, Class::Normal, 1, 8_000);
+    for (unit, drive) in INK_DRIVES.into_iter().enumerate() {
+        hall.arrive(
+            start + 100_000 + 9_000 * unit as u64,
+            drive,
+            Class::Normal,
+            1,
+            1_024,
+        );
+    }
+}
+
+/// How late the corrections were.
+fn lateness(hall: &Hall) -> String {
     let corrections: Vec<_> = hall
         .waits
         .iter()
@@ -63,9 +73,8 @@ fn main() -> Result<(), Box<dyn std::error::Error>> {
         .map(|wait| wait.granted % FRAME + 4_000 + OVERHEAD)
         .max()
         .unwrap_or(0);
-    eprintln!(
+    format!(
         "{} corrections; one waited {waited} bit times at most, the latest in a frame ended {ended} behind its start",
         corrections.len()
-    );
-    Ok(())
+    )
 }

@@ -40,6 +40,19 @@ fn main() -> Result<(), Box<dyn std::error::Error>> {
     }
 }
 
+/// The tree, with its figures.
+fn plan(overhead: u64) -> String {
+    let fifteen = format!("(hub\n{})\n", "(node)\n".repeat(15));
+    let figures = format!(
+        "(frame {FRAME})\n(overhead {overhead})\n(interrupt {})\n",
+        BITS + overhead
+    );
+    format!(
+        "{figures}(hub\n{}{fifteen}{fifteen})\n",
+        "(node)\n".repeat(13)
+    )
+}
+
 /// The network at work: normal load in Mbit/s, overhead, how many frames, and which part of a run.
 fn hall(
     load: u64,
@@ -48,12 +61,7 @@ fn hall(
     frames: u64,
     part: u64,
 ) -> Result<(String, Hall), Box<dyn std::error::Error>> {
-    let fifteen = format!("(hub\n{})\n", "(node)\n".repeat(15));
-    let plan = format!(
-        "(frame {FRAME})\n(overhead {overhead})\n(interrupt {})\n(hub\n{}{fifteen}{fifteen})\n",
-        BITS + overhead,
-        "(node)\n".repeat(13)
-    );
+    let plan = plan(overhead);
     let mut hall = Hall::new(&Plan::read(plan.as_bytes())?);
     let mut draw = Draw(part);
     for node in HIGH {

@@ -58,6 +58,18 @@ impl Refused {
         self as u32
     }
 
+    /// The row with a number, if a call can meet it: what a log's `(refused line number)` says of an event.
+    ///
+    /// ```
+    /// use lembuya::Refused;
+    ///
+    /// assert_eq!(Refused::numbered(17), Some(Refused::Full));
+    /// assert_eq!(Refused::numbered(18), None);
+    /// ```
+    pub fn numbered(number: u64) -> Option<Refused> {
+        Refused::ALL.into_iter().find(|row| u64::from(row.number()) == number)
+    }
+
     /// This refusal on a line of a text, to be shown as the log has it.
     pub fn at(self, line: u64) -> RefusedLine {
         RefusedLine { line, number: self.number() }
@@ -65,10 +77,7 @@ impl Refused {
 
     /// The row that the archive named.
     pub(crate) fn row(number: u64) -> Refused {
-        match Refused::ALL.into_iter().find(|row| u64::from(row.number()) == number) {
-            Some(row) => row,
-            None => unreachable!("no row of a call has number {number}"),
-        }
+        Refused::numbered(number).unwrap_or_else(|| unreachable!("no row of a call has number {number}"))
     }
 
     /// What the archive answered an event: 0, or the row's number.
@@ -123,6 +132,23 @@ impl PlanRow {
     pub fn number(self) -> u32 {
         self as u32
     }
+
+    /// The row with a number, if it is a plan's: what a log's `(refused line number)` says of a refused plan.
+    ///
+    /// ```
+    /// use lembuya::PlanRow;
+    ///
+    /// assert_eq!(PlanRow::numbered(2), Some(PlanRow::Figure));
+    /// assert_eq!(PlanRow::numbered(4), None);
+    /// ```
+    pub fn numbered(number: u64) -> Option<PlanRow> {
+        match number {
+            1 => Some(PlanRow::Form),
+            2 => Some(PlanRow::Figure),
+            3 => Some(PlanRow::Limit),
+            _ => None,
+        }
+    }
 }
 
 impl fmt::Display for PlanRow {
@@ -166,12 +192,8 @@ impl PlanRefused {
 
     /// The refusal that the archive named.
     pub(crate) fn named(line: u64, number: u32) -> PlanRefused {
-        let row = match number {
-            1 => PlanRow::Form,
-            2 => PlanRow::Figure,
-            3 => PlanRow::Limit,
-            _ => unreachable!("no row of a plan has number {number}"),
-        };
+        let row = PlanRow::numbered(number.into());
+        let row = row.unwrap_or_else(|| unreachable!("no row of a plan has number {number}"));
         PlanRefused { line, row }
     }
 }

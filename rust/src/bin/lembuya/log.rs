@@ -66,29 +66,14 @@ pub fn read(bytes: &[u8]) -> Result<Vec<Entry>, usize> {
 
 /// The words of document 01's table for a number; a plan's row 1 and an event line's row 1 differ.
 pub fn words(number: u64, of_plan: bool) -> String {
-    let plan = [PlanRow::Form, PlanRow::Figure, PlanRow::Limit].into_iter();
-    match (number, of_plan) {
-        (1, false) => "no form above, or its LF is missing".into(),
-        (1..=3, _) => {
-            plan.filter(|row| u64::from(row.number()) == number).map(|row| row.to_string()).collect()
-        }
-        _ => {
-            let row = ROWS.into_iter().find(|row| u64::from(row.number()) == number);
-            row.map_or_else(|| "no row has this number".into(), |row| row.to_string())
-        }
+    let plan = PlanRow::numbered(number).map(|row| row.to_string());
+    match (plan, Refused::numbered(number)) {
+        (Some(_), _) if number == 1 && !of_plan => "no form above, or its LF is missing".into(),
+        (Some(words), _) => words,
+        (None, Some(row)) => row.to_string(),
+        (None, None) => "no row has this number".into(),
     }
 }
-
-/// The rows that an event can meet.
-const ROWS: [Refused; 7] = [
-    Refused::Time,
-    Refused::Due,
-    Refused::Node,
-    Refused::Packets,
-    Refused::Length,
-    Refused::Unreserved,
-    Refused::Full,
-];
 
 #[cfg(test)]
 mod tests {

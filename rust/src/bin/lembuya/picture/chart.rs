@@ -85,43 +85,43 @@ impl Chart {
         to: Option<u64>,
     ) -> Result<Chart, String> {
         let accepted = text.map(|text| text.accepted(entries)).unwrap_or_default();
-        let ends = entries.iter().filter_map(|entry| match entry {
-            Entry::Turn(Step::Grant { end, .. }) => Some(*end),
-            Entry::Turn(Step::Rest { time, .. }) => Some(*time),
-            _ => None,
-        });
-        let last = ends.chain(accepted.iter().map(|event| event.time())).max().unwrap_or(0);
+        let ends = entries.iter().filter_map(end).chain(accepted.iter().map(|event| event.time()));
+        let last = ends.max().unwrap_or(0);
         let from = from.unwrap_or(0);
         let to = to.unwrap_or(last.max(from + 1));
         if from >= to {
             return Err(format!("nothing lies from {from} up to {to}"));
         }
         let places = Places::new(text, entries);
-        let mut chart = Chart {
+        let mut chart = Chart::empty(title, places.figures(text), from, to, places.rows.clone());
+        chart.add_turns(&places, entries, last);
+        if let Some(text) = text {
+            let frames = (to - from) / text.figures.frame;
+            if frames > MOST_FRAMES {
+                let most = format!("--from and --to take at most {MOST_FRAMES} of them");
+                return Err(format!("{frames} frames are too many for a picture; {most}"));
+            }
+            chart.add_frames(&places, text, &accepted);
+            chart.add_refusals(&places, text, entries);
+        }
+        Ok(chart)
+    }
+
+    /// Rows and a range, with nothing in them yet.
+    pub fn empty(title: &str, figures: String, from: u64, to: u64, rows: Vec<Row>) -> Chart {
+        Chart {
             title: title.into(),
-            figures: places.figures(text),
+            figures,
             from,
             to,
-            rows: places.rows.clone(),
+            rows,
             frames: Vec::new(),
             bars: Vec::new(),
             controls: Vec::new(),
             rests: Vec::new(),
             limits: Vec::new(),
             refusals: Vec::new(),
-        };
-        chart.add_turns(&places, entries, last);
-        if let Some(text) = text {
-            if (to - from) / text.figures.frame > MOST_FRAMES {
-                return Err(format!(
-                    "{} frames are too many for a picture; --from and --to take at most {MOST_FRAMES} of them",
-                    (to - from) / text.figures.frame
-                ));
-            }
-            chart.add_frames(&places, text, &accepted);
-            chart.add_refusals(&places, text, entries);
         }
-        Ok(chart)
     }
 
     /// Whether a stretch of time is in the picture.
@@ -202,6 +202,15 @@ fn limit_words(node: usize, frame: u64, share: Share, limit: u64, at: u64) -> St
     format!(
         "node {node}, frame {frame}: delay limit {limit} bit times, to {at} ({packets} packets of at most {bits} bits)"
     )
+}
+
+/// When an entry of the log is over.
+fn end(entry: &Entry) -> Option<u64> {
+    match entry {
+        Entry::Turn(Step::Grant { end, .. }) => Some(*end),
+        Entry::Turn(Step::Rest { time, .. }) => Some(*time),
+        _ => None,
+    }
 }
 
 fn turn(entry: &Entry) -> Option<Step> {

@@ -247,7 +247,37 @@ fn cross_at(svg: &mut Svg, x: f64, y: f64, half: f64, title: &str) {
 
 #[cfg(test)]
 mod tests {
+    use super::super::chart::{Bar, Row};
     use super::*;
+
+    /// The number behind a name in an element.
+    fn number(element: &str, name: &str) -> f64 {
+        let behind = element.split_once(&format!(" {name}=\"")).unwrap().1;
+        behind.split_once('"').unwrap().0.parse().unwrap()
+    }
+
+    #[test]
+    fn a_bar_stands_where_its_times_and_its_row_are() {
+        let row =
+            |label: &str, is_hub: bool| Row { depth: usize::from(!is_hub), label: label.into(), is_hub };
+        let rows = vec![row("hub 1", true), row("node 1", false), row("node 2", false)];
+        let mut chart = Chart::empty("t", String::new(), 1_000, 2_000, rows);
+        let bar = |row, from, to, class| Bar { row, from, to, class, title: format!("bar {from}") };
+        chart.bars = vec![bar(1, 900, 1_250, Class::Normal), bar(2, 1_500, 1_600, Class::High)];
+        let page = page(&chart);
+        let found = |title: &str| page.lines().find(|line| line.contains(title)).unwrap();
+        let (left, scale) = (66.0 + 14.0, 1.0);
+        // What lies before the range is cut off at its edge.
+        let low = found("<title>bar 900<");
+        assert_eq!((number(low, "x"), number(low, "width")), (left, 250.0 * scale));
+        let high = found("<title>bar 1500<");
+        assert_eq!((number(high, "x"), number(high, "width")), (left + 500.0 * scale, 100.0 * scale));
+        // One row further down, and taller by its class, about the row's middle.
+        let middle = |bar| number(bar, "y") + number(bar, "height") / 2.0;
+        assert_eq!(middle(high) - middle(low), 24.0);
+        assert!(number(high, "height") > number(low, "height"));
+        assert!(low.starts_with("<rect class=\"normal\"") && high.starts_with("<rect class=\"high\""));
+    }
 
     #[test]
     fn labels_leave_room() {
