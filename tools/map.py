@@ -5,7 +5,7 @@
     python3 tools/map.py --check    fails if they are stale, or if a link of README.md, docs/ or docs/landings/ leads nowhere
 
 The words of the map stand in tools/map.template.md. There {{FILE NAME}} becomes a link to where NAME is declared in FILE, {{FILE}} one to the file,
-{{stands FILE}} links to the files of proofs/ that FILE's `use` lines name, and {{crates}} the table of crates.
+{{stands FILE..}} links to the files of proofs/ that the `use` lines of FILE.. name, and {{crates}} the table of crates.
 """
 import html
 import pathlib
@@ -97,16 +97,17 @@ def declared(file, name):
     return found[0]
 
 
-def stands_on(file):
-    """Links to the files of proofs/ that a file's `use` lines name."""
-    own = file.split('/')[1]
+def stands_on(files):
+    """Links to the files of proofs/ that the `use` lines of files name, but for these files themselves."""
     links = []
-    for crate, other, module in re.findall(r'^use Rattle·([a-z]+)(·proofs\.proofs|\.proofs)\.([A-Za-z0-9.]+?)(?:\.\{| as |$)',
-                                           (ROOT / file).read_text(), re.M):
-        at = f'crates/{crate}/proofs/{module.replace(".", "/")}.antt'
-        words = module if crate == own else f'{crate} {module}'
-        if (ROOT / at).exists():
-            links.append(link(at, words))
+    for file in files:
+        own = file.split('/')[1]
+        uses = re.findall(r'^use Rattle·([a-z]+)(?:·proofs\.proofs|\.proofs)\.([A-Za-z0-9.]+?)(?:\.\{| as |$)', (ROOT / file).read_text(), re.M)
+        for crate, module in uses:
+            at = f'crates/{crate}/proofs/{module.replace(".", "/")}.antt'
+            words = module if crate == own else f'{crate} {module}'
+            if (ROOT / at).exists() and at not in files:
+                links.append(link(at, words))
     return ', '.join(dict.fromkeys(links)) or 'definitions alone'
 
 
@@ -124,7 +125,7 @@ def filled(template):
         if words == ['crates']:
             return table()
         if words[0] == 'stands':
-            return stands_on(words[1])
+            return stands_on(words[1:])
         if len(words) == 1:
             return link(words[0], f'`{words[0]}`')
         return link(words[0], f'`{words[1]}`', declared(*words))

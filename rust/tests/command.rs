@@ -84,7 +84,8 @@ fn a_picture_has_each_grant_of_the_log_once() {
 
 #[test]
 fn a_picture_of_a_part_shows_that_part() {
-    let (status, out, _) = lembuya(&["picture", "--from", "112000", "--to=119,000", EXAMPLE], "");
+    let (status, out, _) =
+        lembuya(&["picture", "--from", "0", "--from", "112000", "--to=119,000", EXAMPLE], "");
     assert_eq!(status, 0);
     assert!(out.contains("(grant 112000 3 2 117000 2)") && !out.contains("(grant 0 1 1 13000 0)"));
 }
