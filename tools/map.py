@@ -5,7 +5,8 @@
     python3 tools/map.py --check    fails if they are stale, or if a link of README.md, docs/ or docs/landings/ leads nowhere
 
 The words of the map stand in tools/map.template.md. There {{FILE NAME}} becomes a link to where NAME is declared in FILE, {{FILE}} one to the file,
-{{stands FILE..}} links to the files of proofs/ that the `use` lines of FILE.. name, and {{crates}} the table of crates.
+{{stands FILE..}} links to the files of proofs/ that the `use` lines of FILE.. name, {{folders CRATE}} the folders of a crate's
+proofs, and {{crates}} the table of crates.
 """
 import html
 import pathlib
@@ -119,11 +120,24 @@ def table():
     return '\n'.join(rows)
 
 
+def folders(crate):
+    """The folders of a crate's proofs that have a first file beside them, with its first line, in the order of proofs/Lib.antt."""
+    proofs = ROOT / 'crates' / crate / 'proofs'
+    rows = []
+    for name in re.findall(r'^pub mod (\w+)', (proofs / 'Lib.antt').read_text(), re.M):
+        if (proofs / name).is_dir():
+            first = (proofs / f'{name}.antt').read_text().splitlines()[0].removeprefix('-- ')
+            rows.append(f'- {link(f"crates/{crate}/proofs/{name}.antt", f"`{crate}` {name}")}: {first}')
+    return '\n'.join(rows)
+
+
 def filled(template):
     def fill(match):
         words = match[1].split(' ')
         if words == ['crates']:
             return table()
+        if words[0] == 'folders':
+            return folders(words[1])
         if words[0] == 'stands':
             return stands_on(words[1:])
         if len(words) == 1:

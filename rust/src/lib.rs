@@ -16,6 +16,8 @@
 //! - [`log()`], [`log_into`]: the whole log of a text.
 //! - [`ffi`]: the archive's functions as they are.
 //!
+//! The command `lembuya` over this crate (`src/bin/lembuya`) makes logs, limits and pictures of texts.
+//!
 //! # Document 01's example
 //!
 //! A root hub with a node, a hub of two nodes, and a node:

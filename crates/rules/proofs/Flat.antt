@@ -6,7 +6,7 @@
 --
 -- InTurn has the flat rule's choice: the first counting node from the pointer on, or else the first of all. Turns: the node granted is one of 1 to N that
 -- counts, and the pointers stay within 1 to N. Agree: two machines that give the same turn answer a call alike but for moves and leave the same core; and
--- over every list of calls a machine that follows the flat rule gives the flat hub's answers.
+-- over every list of calls a machine that follows the flat rule gives the flat hub's answers but for moves.
 pub mod InTurn
 pub mod Follows
 pub mod Turns

@@ -1,6 +1,6 @@
 -- What else is promised, and what the rules rule out.
 --
--- Three short theorems over every list of calls, each from the five ways of a call (Core.CallCases) and from what holds at every place (Core.AlwaysSound).
+-- Three short arguments, from the five ways of a call (Core.CallCases) and, but for the first, from what holds at every place (Core.AlwaysSound).
 -- Unchanged: a refusal, and a quiet step, leave the state as it was. Admission: what was accepted fits the frame at every place, so 17 keeps its promise.
 -- NoTimeLost: a step with a later bound handles the due instant, and where a request counts there it is a grant to one that counts.
 -- (That an event is taken just where no row refuses it is Core.Acceptance, since the others need it.)
