@@ -119,11 +119,29 @@ fn bad_usage_is_status_2_and_help_is_0() {
 }
 
 #[test]
-fn a_log_of_another_plan_is_no_log_of_this_one() {
-    let (status, _, err) = lembuya(&["picture", EXAMPLE, "-"], "(nodes 5 hubs 2)\n");
-    assert_eq!((status, err.as_str()), (2, "lembuya: -:1: the plan has another number of nodes than 5\n"));
-    let (status, _, err) = lembuya(&["picture", "-"], "(nodes 4 hubs 2)\n(grant 0 5 1 13000 0)\n");
-    assert_eq!((status, err.as_str()), (2, "lembuya: -:2: there is no node 5\n"));
-    let (status, _, err) = lembuya(&["picture", "-"], "(nodes 4 hubs 2)\n(grand 0 5 1 13000 0)\n");
-    assert_eq!((status, err.as_str()), (2, "lembuya: -:2: that is no line of a log\n"));
+fn a_log_with_its_text_must_be_that_texts_log() {
+    let refused = |log: &str, words: &str| {
+        let (status, out, err) = lembuya(&["picture", EXAMPLE, "-"], log);
+        assert_eq!((status, out.as_str()), (2, ""));
+        assert_eq!(err, format!("lembuya: -:{words}\n").replace("EXAMPLE", EXAMPLE));
+    };
+    refused("(nodes 5 hubs 2)\n", "1: the log of EXAMPLE has (nodes 4 hubs 2) here");
+    refused(
+        &LOG.replace("(grant 13000 4", "(grant 13000 3"),
+        "4: the log of EXAMPLE has (grant 13000 4 1 20000 0) here",
+    );
+    refused(&LOG.replace("(rest 119000 0)\n", ""), "9: the log of EXAMPLE has (rest 119000 0) here");
+    refused(&format!("{LOG}(rest 200000 0)\n"), "10: the log of EXAMPLE ends here");
+    assert_eq!(lembuya(&["picture", EXAMPLE, "-"], LOG.trim_end()).0, 0);
+}
+
+#[test]
+fn a_log_alone_must_be_a_log() {
+    let refused = |log: &str, words: &str| {
+        assert_eq!(lembuya(&["picture", "-"], log), (2, String::new(), format!("lembuya: -:{words}\n")));
+    };
+    refused("(nodes 4 hubs 2)\n(grant 0 5 1 13000 0)\n", "2: there is no such node");
+    refused("(nodes 4 hubs 2)\n(grand 0 1 1 13000 0)\n", "2: that is no line of a log");
+    refused("(nodes 257 hubs 2)\n", "1: a plan has 1 to 256 nodes");
+    refused("(refused 1 2)\n", " a refused plan has no picture");
 }

@@ -57,11 +57,15 @@ impl Entry {
 /// No time of a log lies behind this one: 10^15, document 01's latest, and the longest packet and overhead.
 pub const LATEST: u64 = 1_000_000_000_000_000 + 62_000;
 
+/// A log's lines, without their LF; that of the last one may be missing.
+pub fn lines(bytes: &[u8]) -> Vec<&[u8]> {
+    bytes.strip_suffix(b"\n").unwrap_or(bytes).split(|byte| *byte == b'\n').collect()
+}
+
 /// Reads a log; the number of the first line that is none is the error.
 pub fn read(bytes: &[u8]) -> Result<Vec<Entry>, usize> {
-    let lines = bytes.strip_suffix(b"\n").unwrap_or(bytes).split(|byte| *byte == b'\n').enumerate();
     let read = |(at, line)| std::str::from_utf8(line).ok().and_then(Entry::read).ok_or(at + 1);
-    lines.map(read).collect()
+    lines(bytes).into_iter().enumerate().map(read).collect()
 }
 
 /// The words of document 01's table for a number; a plan's row 1 and an event line's row 1 differ.

@@ -20,8 +20,8 @@ pub const HELP: &str = "\
 lembuya picture [--from T] [--to T] [--title WORDS] TEXT [LOG]
 
 A picture of a log, as SVG on standard output. TEXT holds the plan and events that LOG is the log
-of; without LOG the text is run. '-' is standard input. A LOG alone can be drawn too: then there
-is no tree, and no frame or delay limit, since a log doesn't tell them.
+of, which is checked; without LOG the text is run. '-' is standard input. A LOG alone can be drawn
+too: then there is no tree, and no frame or delay limit, since a log doesn't tell them.
 
     --from T, --to T    draw the time from T up to T only, in bit times; at first all of it
     --title WORDS       the words above the picture; at first the file's name
@@ -36,54 +36,74 @@ Exit status: 0; 1 where the plan is refused; 2 for bad usage.
 ";
 
 pub fn command(args: &Args) -> Result<End, Wrong> {
-    let (mut text, mut entries) = (None, None);
-    for file in &args.files {
-        let bytes = args::bytes(file)?;
-        let is_log = bytes.starts_with(b"(nodes ") || bytes.starts_with(b"(refused ");
-        match (is_log, entries.is_some(), text.is_some()) {
-            (true, false, _) => {
-                let no_line = |line| Wrong(format!("{file}:{line}: that is no line of a log"));
-                entries = Some((file, log::read(&bytes).map_err(no_line)?));
-            }
-            (false, _, false) => text = Some((file, bytes)),
-            _ => return Err(Wrong("picture takes one text, or one log, or one of each".into())),
-        }
-    }
-    let name = text.as_ref().map(|(file, _)| *file).or(entries.as_ref().map(|(file, _)| *file));
-    let title = args.value("--title").or(name.map(String::as_str)).unwrap_or_default();
-    let text = match text {
-        None => None,
-        Some((file, bytes)) => {
-            let made = log::read(&lembuya::log(&bytes)).expect("the archive writes a log");
+    let (from, to) = (args.time("--from")?, args.time("--to")?);
+    let (text, log) = sorted(&args.files)?;
+    let name = text.as_ref().or(log.as_ref()).map(|(file, _)| *file).expect("a file was named");
+    let title = args.value("--title").unwrap_or(name);
+    let (text, entries) = match (text, log) {
+        (Some((file, bytes)), log) => {
+            let made = lembuya::log(&bytes);
+            let entries = log::read(&made).expect("the archive writes a log");
             let Ok(text) = Text::read(&bytes) else {
-                run::tell(file, &bytes, &made);
+                run::tell(file, &bytes, &entries);
                 return Ok(End::Refused);
             };
-            entries.get_or_insert((file, made));
-            Some(text)
+            log.map_or(Ok(()), |(other, bytes)| same(other, &bytes, file, &made))?;
+            (Some(text), entries)
         }
+        (None, Some((file, bytes))) => (None, alone(file, &bytes)?),
+        (None, None) => unreachable!("a file was named"),
     };
-    let (file, entries) = entries.expect("a text or a log was given");
-    check(file, text.as_ref(), &entries)?;
-    let chart = Chart::new(title, text.as_ref(), &entries, args.time("--from")?, args.time("--to")?);
-    args::print(&draw::page(&chart.map_err(Wrong)?))?;
+    let chart = Chart::new(title, text.as_ref(), &entries, from, to).map_err(Wrong)?;
+    args::print(&draw::page(&chart))?;
     Ok(End::Done)
 }
 
-/// Whether a log can be that of a text: it has a taken plan's first line, with as many nodes, and grants to these alone.
-fn check(file: &str, text: Option<&Text>, entries: &[Entry]) -> Result<(), Wrong> {
+/// A file's name and its bytes.
+type Named<'f> = (&'f str, Vec<u8>);
+
+/// The text and the log among the files: a log starts with the form that only a log has.
+fn sorted(files: &[String]) -> Result<(Option<Named<'_>>, Option<Named<'_>>), Wrong> {
+    let (mut text, mut log) = (None, None);
+    for file in files {
+        let bytes = args::bytes(file)?;
+        let is_log = bytes.starts_with(b"(nodes ") || bytes.starts_with(b"(refused ");
+        let place = if is_log { &mut log } else { &mut text };
+        if place.replace((file.as_str(), bytes)).is_some() {
+            return Err(Wrong("picture takes one text, or one log, or one of each".into()));
+        }
+    }
+    Ok((text, log))
+}
+
+/// A log handed over with its text is just the one that the archive makes of it, line by line.
+fn same(file: &str, log: &[u8], text: &str, made: &[u8]) -> Result<(), Wrong> {
+    let [log, made] = [log, made].map(log::lines);
+    let same = log.iter().zip(&made).take_while(|(line, other)| line == other).count();
+    if same == log.len().max(made.len()) {
+        return Ok(());
+    }
+    let words = match made.get(same) {
+        Some(line) => format!("has {} here", String::from_utf8_lossy(line)),
+        None => "ends here".into(),
+    };
+    Err(Wrong(format!("{file}:{}: the log of {text} {words}", same + 1)))
+}
+
+/// A log without its text: it has a taken plan's first line, and grants to its nodes alone.
+fn alone(file: &str, bytes: &[u8]) -> Result<Vec<Entry>, Wrong> {
+    let no_line = |line| Wrong(format!("{file}:{line}: that is no line of a log"));
+    let entries = log::read(bytes).map_err(no_line)?;
     let Some(&Entry::Taken { nodes, .. }) = entries.first() else {
         return Err(Wrong(format!("{file}: a refused plan has no picture")));
     };
-    if text.is_some_and(|text| text.nodes as u64 != nodes) || !(1..=256).contains(&nodes) {
-        return Err(Wrong(format!("{file}:1: the plan has another number of nodes than {nodes}")));
+    if !(1..=256).contains(&nodes) {
+        return Err(Wrong(format!("{file}:1: a plan has 1 to 256 nodes")));
     }
     for (at, entry) in entries.iter().enumerate() {
-        if let Entry::Turn(lembuya::Step::Grant { node, .. }) = entry {
-            if !(1..=nodes).contains(node) {
-                return Err(Wrong(format!("{file}:{}: there is no node {node}", at + 1)));
-            }
+        if matches!(entry, Entry::Turn(lembuya::Step::Grant { node, .. }) if !(1..=nodes).contains(node)) {
+            return Err(Wrong(format!("{file}:{}: there is no such node", at + 1)));
         }
     }
-    Ok(())
+    Ok(entries)
 }
