@@ -188,8 +188,14 @@ def picture():
     return '\n'.join(out) + '\n</svg>\n'
 
 
+def headings(paper):
+    """The marks by which a page's headings are linked to: small letters, hyphens for spaces, no other signs."""
+    words = re.findall(r'^#+ (.*)', paper.read_text(), re.M)
+    return {re.sub(r'[^\w -]', '', heading.lower()).replace(' ', '-') for heading in words}
+
+
 def broken_links():
-    """Links in the papers to files, or lines of files, that aren't there. What ../shared has is looked at only where it is there."""
+    """Links in the papers to files, lines or headings that aren't there. What ../shared has is looked at only where it is there."""
     broken = []
     for paper in [ROOT / 'README.md', *sorted((ROOT / 'docs').rglob('*.md'))]:
         for target in re.findall(r'\]\(([^)\s]+)\)', re.sub(r'`[^`\n]*`', '', paper.read_text())):
@@ -200,8 +206,10 @@ def broken_links():
             if not where.is_relative_to(ROOT):
                 if not (ROOT.parent / 'shared').exists():
                     continue
-            lines = re.fullmatch(r'L(\d+)', mark)
-            if not where.exists() or lines and int(lines[1]) > len(where.read_text().splitlines()):
+            line = re.fullmatch(r'L(\d+)', mark)
+            if not where.exists():
+                broken.append(f'{paper.relative_to(ROOT)}: {target}')
+            elif line and int(line[1]) > len(where.read_text().splitlines()) or mark and not line and mark not in headings(where):
                 broken.append(f'{paper.relative_to(ROOT)}: {target}')
     return broken
 

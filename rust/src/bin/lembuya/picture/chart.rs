@@ -124,8 +124,12 @@ impl Chart {
         }
     }
 
-    /// Whether a stretch of time is in the picture.
+    /// Whether a stretch of time is in the picture. One of no length is where it lies in the range, its ends included: a rest
+    /// may be over at once, and the log's last one has nothing behind it.
     fn shows(&self, from: u64, to: u64) -> bool {
+        if from == to {
+            return (self.from..=self.to).contains(&from);
+        }
         from < self.to && to > self.from
     }
 
@@ -133,7 +137,7 @@ impl Chart {
         let turns: Vec<Step> = entries.iter().filter_map(turn).collect();
         let starts: Vec<u64> = turns.iter().map(|turn| time(*turn)).chain([last]).collect();
         let mut before = places.root;
-        if self.shows(0, starts[0]) {
+        if starts[0] > 0 && self.shows(0, starts[0]) {
             let title = "at first the root has control".into();
             self.controls.push(Control { row: before, before, from: 0, to: starts[0], moves: 0, title });
         }
@@ -363,6 +367,20 @@ mod tests {
         assert!(chart.rests.is_empty() && chart.limits.is_empty() && chart.frames.is_empty());
         let entries = crate::log::read(&lembuya::log(EXAMPLE)).unwrap();
         assert!(Chart::new("", None, &entries, Some(5), Some(5)).is_err());
+    }
+
+    #[test]
+    fn a_rest_of_no_length_is_shown() {
+        let entries = crate::log::read(
+            b"(nodes 1 hubs 1)\n(grant 0 1 1 600 0)\n(rest 600 1)\n(grant 600 1 1 1200 2)\n(rest 1200 3)\n",
+        );
+        let entries = entries.unwrap();
+        let chart = Chart::new("", None, &entries, None, None).unwrap();
+        let rests: Vec<_> = chart.rests.iter().map(|rest| (rest.from, rest.to)).collect();
+        assert_eq!((chart.to, rests), (1_200, vec![(600, 600), (1_200, 1_200)]));
+        let moves: Vec<_> = chart.controls.iter().map(|control| control.moves).collect();
+        assert_eq!(moves, [0, 1, 2, 3]);
+        assert!(Chart::new("", None, &entries, None, Some(599)).unwrap().rests.is_empty());
     }
 
     #[test]
