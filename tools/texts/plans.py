@@ -1,25 +1,22 @@
-#!/usr/bin/env python3
-"""Plan texts, each with the first line of its log, worked out by hand from document 01 and never by running a reader. tools/log_texts.py takes them.
+"""Plan texts, each with the first line of its log, worked out by hand from document 01 and never by running a reader."""
+from .case import EXAMPLE, Cases, as_bytes, figures, plan
 
-    python3 tools/plan_texts.py          prints each text's first line and name
-"""
-FIGURES = ['(frame 100000)', '(overhead 1000)', '(interrupt 13000)']
-EXAMPLE = FIGURES + ['(hub', '(node)', '(hub', '(node)', '(node)', ')', '(node)', ')']
+cases = Cases()
 
-cases = []
-
-
-def text(lines):
-    return ''.join(line + '\n' for line in lines)
+FIGURES = figures(100000, 1000, 13000)
 
 
 def case(name, what, line):
-    """what: a list of lines, each ended by LF, or the whole text"""
-    cases.append((name, what if isinstance(what, str) else text(what), line))
+    """`what` is a list of lines, each ended by LF, or the whole text as a string."""
+    cases.planned(name, what.encode() if isinstance(what, str) else what, line)
 
 
-def figures(frame, overhead, interrupt):
-    return [f'(frame {frame})', f'(overhead {overhead})', f'(interrupt {interrupt})', '(hub', '(node)', ')']
+def text(lines):
+    return as_bytes(lines).decode()
+
+
+def one_node(frame, overhead, interrupt):
+    return plan(frame, overhead, interrupt, '(hub', '(node)', ')')
 
 
 def taken(nodes, hubs):
@@ -37,26 +34,26 @@ case('a bracket too many is an event line', EXAMPLE + [')'], taken(4, 2))
 case('anything may follow the plan, an unended line too', text(EXAMPLE) + 'x', taken(4, 2))
 
 # figures at both ends of their ranges, and one outside
-case('T at its least', figures(100000, 0, 12000), taken(1, 1))
-case('T below', figures(99999, 0, 12000), refused(1, 2))
-case('T at its most', figures(4000000, 0, 12000), taken(1, 1))
-case('T above', figures(4000001, 0, 12000), refused(1, 2))
-case('T is 0', figures(0, 0, 12000), refused(1, 2))
-case('O at its least', figures(100000, 0, 12000), taken(1, 1))
-case('O at its most', figures(100000, 50000, 62000), taken(1, 1))
-case('O above', figures(100000, 50001, 62001), refused(2, 2))
-case('D at its least with O = 0', figures(100000, 0, 12000), taken(1, 1))
-case('D below with O = 0', figures(100000, 0, 11999), refused(3, 2))
-case('D at its least with O = 1,000', figures(100000, 1000, 13000), taken(1, 1))
-case('D below with O = 1,000', figures(100000, 1000, 12999), refused(3, 2))
-case('D at its least with O = 50,000', figures(100000, 50000, 62000), taken(1, 1))
-case('D below with O = 50,000', figures(100000, 50000, 61999), refused(3, 2))
-case('D at its most', figures(100000, 0, 100000), taken(1, 1))
-case('D above', figures(100000, 0, 100001), refused(3, 2))
-case('D at its most in the longest frame', figures(4000000, 50000, 4000000), taken(1, 1))
-case('D above in the longest frame', figures(4000000, 50000, 4000001), refused(3, 2))
-case('the first line decides, T before O', figures(99999, 50001, 1), refused(1, 2))
-case('the first line decides, O before D', figures(100000, 50001, 1), refused(2, 2))
+case('T at its least', one_node(100000, 0, 12000), taken(1, 1))
+case('T below', one_node(99999, 0, 12000), refused(1, 2))
+case('T at its most', one_node(4000000, 0, 12000), taken(1, 1))
+case('T above', one_node(4000001, 0, 12000), refused(1, 2))
+case('T is 0', one_node(0, 0, 12000), refused(1, 2))
+case('O at its least', one_node(100000, 0, 12000), taken(1, 1))
+case('O at its most', one_node(100000, 50000, 62000), taken(1, 1))
+case('O above', one_node(100000, 50001, 62001), refused(2, 2))
+case('D at its least with O = 0', one_node(100000, 0, 12000), taken(1, 1))
+case('D below with O = 0', one_node(100000, 0, 11999), refused(3, 2))
+case('D at its least with O = 1,000', one_node(100000, 1000, 13000), taken(1, 1))
+case('D below with O = 1,000', one_node(100000, 1000, 12999), refused(3, 2))
+case('D at its least with O = 50,000', one_node(100000, 50000, 62000), taken(1, 1))
+case('D below with O = 50,000', one_node(100000, 50000, 61999), refused(3, 2))
+case('D at its most', one_node(100000, 0, 100000), taken(1, 1))
+case('D above', one_node(100000, 0, 100001), refused(3, 2))
+case('D at its most in the longest frame', one_node(4000000, 50000, 4000000), taken(1, 1))
+case('D above in the longest frame', one_node(4000000, 50000, 4000001), refused(3, 2))
+case('the first line decides, T before O', one_node(99999, 50001, 1), refused(1, 2))
+case('the first line decides, O before D', one_node(100000, 50001, 1), refused(2, 2))
 
 # the limits of the tree
 case('32 ports', FIGURES + ['(hub'] + ['(node)'] * 32 + [')'], taken(32, 1))
@@ -83,7 +80,8 @@ def deep(levels):
 case('1 level', deep(1), taken(1, 1))
 case('5 levels', deep(5), taken(1, 5))
 case('6 levels', deep(6), refused(9, 3))
-case('6 levels behind a second branch', FIGURES + ['(hub'] + ['(hub'] * 4 + ['(node)'] + [')'] * 4 + ['(hub'] * 5 + ['(node)'] + [')'] * 6, refused(18, 3))
+case('6 levels behind a second branch',
+     FIGURES + ['(hub'] + ['(hub'] * 4 + ['(node)'] + [')'] * 4 + ['(hub'] * 5 + ['(node)'] + [')'] * 6, refused(18, 3))
 case('5 levels twice', FIGURES + ['(hub'] + (['(hub'] * 4 + ['(node)'] + [')'] * 4) * 2 + [')'], taken(2, 9))
 case('the root without ports', FIGURES + ['(hub', ')'], refused(5, 3))
 case('an inner hub without ports', FIGURES + ['(hub', '(node)', '(hub', ')', ')'], refused(7, 3))
@@ -107,15 +105,15 @@ case('a port line of 81 bytes', EXAMPLE[:4] + ['(node)' + ' ' * 75] + EXAMPLE[5:
 case('a number of 16 digits', ['(frame 1234567890123456)'] + EXAMPLE[1:], refused(1, 2))
 case('a number of 17 digits', ['(frame 12345678901234567)'] + EXAMPLE[1:], refused(1, 1))
 case('a number of 20 digits that is 100,000 in 64 bits', ['(frame 18446744073709651616)'] + EXAMPLE[1:], refused(1, 1))
-case('0', figures(100000, '0', 12000), taken(1, 1))
-case('00', figures(100000, '00', 12000), refused(2, 1))
-case('a leading zero', figures('0100000', 0, 12000), refused(1, 1))
-case('no number', figures('', 0, 12000), refused(1, 1))
-case('a sign', figures('+100000', 0, 12000), refused(1, 1))
-case('a fraction', figures('100000.0', 0, 12000), refused(1, 1))
-case('two numbers', figures('100000 1', 0, 12000), refused(1, 1))
-case('two spaces', figures(' 100000', 0, 12000), refused(1, 1))
-case('a space before the bracket', figures('100000 ', 0, 12000), refused(1, 1))
+case('0', one_node(100000, '0', 12000), taken(1, 1))
+case('00', one_node(100000, '00', 12000), refused(2, 1))
+case('a leading zero', one_node('0100000', 0, 12000), refused(1, 1))
+case('no number', one_node('', 0, 12000), refused(1, 1))
+case('a sign', one_node('+100000', 0, 12000), refused(1, 1))
+case('a fraction', one_node('100000.0', 0, 12000), refused(1, 1))
+case('two numbers', one_node('100000 1', 0, 12000), refused(1, 1))
+case('two spaces', one_node(' 100000', 0, 12000), refused(1, 1))
+case('a space before the bracket', one_node('100000 ', 0, 12000), refused(1, 1))
 case('a space before the form', [' (frame 100000)'] + EXAMPLE[1:], refused(1, 1))
 case('a space behind the form', ['(frame 100000) '] + EXAMPLE[1:], refused(1, 1))
 case('a tab for the space', ['(frame\t100000)'] + EXAMPLE[1:], refused(1, 1))
@@ -142,15 +140,6 @@ case('no form where a limit is passed too', FIGURES + ['(hub'] + ['(node)'] * 32
 case('a byte above 127', EXAMPLE[:4] + ['(n\u00f6de)'] + EXAMPLE[5:], refused(5, 1))
 
 # the longest texts
-plan = text(EXAMPLE)
-case('65,536 bytes', plan + '(until 1)\n' * ((65536 - len(plan)) // 10) + 'x' * ((65536 - len(plan)) % 10), taken(4, 2))
+left = 65536 - len(text(EXAMPLE))
+case('65,536 bytes', text(EXAMPLE) + '(until 1)\n' * (left // 10) + 'x' * (left % 10), taken(4, 2))
 # (no plan reaches byte 65,536: one has at most some 1,100 lines, each of at most 20 bytes)
-
-
-def main():
-    for name, t, line in cases:
-        print(f'{line:24} {name} ({len(t.encode())} bytes)')
-
-
-if __name__ == '__main__':
-    main()
