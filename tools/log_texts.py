@@ -49,19 +49,21 @@ def texts_too_long():
     return [case.name for case in CASES if len(case.text) > MOST_TEXT_BYTES]
 
 
-def hold_to_the_program(stdin):
-    """What the program's input can't have: no text may hold the byte that separates them, and the last may not be empty."""
+def hold_to_the_suite(stdin):
+    """No text may hold the byte that separates them, and the last may not be empty; few are cut, and all subjects are there."""
     if stdin.count(0) != len(CASES) - 1 or len(stdin) >= MOST_INPUT_BYTES or not CASES[-1].text:
         sys.exit('log_texts: a byte 0 in a text, too many bytes, or an empty text at the end')
     if len({case.name for case in CASES}) != len(CASES) or len(texts_too_long()) > 4:
         sys.exit('log_texts: a name twice, or many texts that are cut')
+    if not vectors.cases:
+        sys.exit(f'log_texts: there are no vectors in {vectors.BEFORE}')
 
 
 def write(folder):
     logs = [log(case.text) for case in CASES]
     hold_against_stated(logs)
     stdin, stdout = b'\0'.join(case.text for case in CASES), b''.join(each + b'--\n' for each in logs)
-    hold_to_the_program(stdin)
+    hold_to_the_suite(stdin)
     folder.mkdir(exist_ok=True)
     (folder / 'stdin').write_bytes(stdin)
     (folder / 'stdout').write_bytes(stdout)

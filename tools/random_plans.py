@@ -7,7 +7,6 @@ The texts are plans at and past every limit, many of them damaged: bytes changed
 480,000 bytes of texts, separated by byte 0. It is no part of the gate.
 """
 import collections
-import pathlib
 import random
 import subprocess
 import sys
