@@ -1,0 +1,2 @@
+-- Every list with calls beside the hub is, for the hub, the list of its projection.
+pub mod Projection
