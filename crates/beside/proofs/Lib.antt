@@ -2,3 +2,6 @@
 pub mod Projection
 pub mod SameHub
 pub mod Continued
+pub mod RowsBehind
+pub mod Run
+pub mod Bell

@@ -9,7 +9,7 @@ use Rattle.plan.specs.Reading.{reading}
 use Rattle.plan.specs.Taken.{TakenAs}
 use Rattle.demands.proofs.Sequence.{sequence}
 use Rattle.demands.proofs.Demands.{demands}
-use Rattle.beside.specs.Beside.{Effect, stays, moves, Beside, Lawful, seen, Item, of-hub, aside, effectOf, projected}
+use Rattle.beside.specs.Beside.{Effect, stays, comes-to, Beside, Lawful, seen, Item, of-hub, aside, effectOf, projected}
 use Rattle.beside.specs.Extended.{Extended}
 use Rattle.beside.specs.SameHub.{less, markSeen, sixCalls, putThere, SameHub, ExtendedDemands}
 use Rattle.beside.proofs.Projection.{projects}
@@ -18,7 +18,7 @@ use Rattle.beside.proofs.Projection.{projects}
 seen-less : (x : Effect) (marks : List Bool) (past : List Entry) → less (markSeen x marks) (seen x past) ≡ less marks past
 unfolding less
 seen-less stays marks past = refl
-seen-less (moves t) marks past = refl
+seen-less (comes-to t) marks past = refl
 
 pub six-kept : (B : Beside) (xs : List (Item B)) → sixCalls B xs ≡ less (putThere B xs) (projected B xs)
 unfolding less sixCalls putThere projected

@@ -14,7 +14,7 @@ pub data Reply (A : Type 0) : Type 0 where
 -- all that an accepted one may do to the hub: nothing, or its clock comes to t
 pub data Effect : Type 0 where
   stays : Effect
-  moves : ℕ → Effect
+  comes-to : ℕ → Effect
 
 -- what a request describes; P and s are the plan's cells and the hub's before a call
 pub record Beside : Type 1 where
@@ -34,7 +34,7 @@ pub record Beside : Type 1 where
 
 -- what a request has to prove: its calls move the clock to t only where `until t` is accepted
 pub record Lawful (B : Beside) : Type 0 where
-  pub as-until : (P s : List ℕ) (q : B .Ask) (b : B .State) (a : B .Told) (t : ℕ) → B .reply P s q b ≡ told a → B .effect q a ≡ moves t
+  pub as-until : (P s : List ℕ) (q : B .Ask) (b : B .State) (a : B .Told) (t : ℕ) → B .reply P s q b ≡ told a → B .effect q a ≡ comes-to t
       → rowBy P (until t) s ≡ 0
 
 abbrev pub entry : Call → Answer → Entry
@@ -43,7 +43,7 @@ entry call answer = record { call = call; answer = answer }
 -- what the hub saw of a call beside it, before what it had seen: nothing, or an accepted `until`
 abbrev pub seen : Effect → List Entry → List Entry
 seen stays past = past
-seen (moves t) past = entry (until t) taken ∷ past
+seen (comes-to t) past = entry (until t) taken ∷ past
 
 module _ (B : Beside) where
   -- a call with its answer: one of the hub's six, or one beside it

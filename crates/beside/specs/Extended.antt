@@ -8,18 +8,18 @@ use Rattle.rules.specs.Run.{Entry}
 use Rattle.state.specs.declared.Step.{Step}
 use Rattle.state.specs.Fresh.{freshCells}
 use Rattle.state.specs.Calls.{isEvent, EventPromise, StepPromise, eventAnswer, stepAnswer, eventBy}
-use Rattle.beside.specs.Beside.{Reply, refusal, told, Effect, stays, moves, Beside, entry, Item, of-hub, aside, effectOf}
+use Rattle.beside.specs.Beside.{Reply, refusal, told, Effect, stays, comes-to, Beside, entry, Item, of-hub, aside, effectOf}
 
 module _ (B : Beside) (P : List ℕ) where
   -- the hub's cells after a call beside it
   abbrev pub cellsLeft : Effect → List ℕ → List ℕ
   cellsLeft stays s = s
-  cellsLeft (moves t) s = eventBy P (until t) s
+  cellsLeft (comes-to t) s = eventBy P (until t) s
 
   -- a moved clock is watched as the `until` that the hub saw
   abbrev pub watching : Effect → List ℕ → B .State → B .State
   watching stays s b = b
-  watching (moves t) s b = B .watch P s (entry (until t) taken) b
+  watching (comes-to t) s b = B .watch P s (entry (until t) taken) b
 
   -- what stands beside the hub after a call beside it
   abbrev pub stateLeft : B .Ask → Reply (B .Told) → List ℕ → B .State → B .State

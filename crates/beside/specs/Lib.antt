@@ -3,3 +3,5 @@ pub mod Beside
 pub mod Extended
 pub mod SameHub
 pub mod Continued
+pub mod Run
+pub mod Bell

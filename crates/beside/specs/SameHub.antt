@@ -7,7 +7,7 @@ use Rattle.rules.specs.Plan.{Plan}
 use Rattle.rules.specs.Run.{Entry}
 use Rattle.state.specs.Run.{madeBy}
 use Rattle.demands.specs.Demands.{Calls, callsOf, Demands}
-use Rattle.beside.specs.Beside.{Effect, stays, moves, Beside, Item, of-hub, aside, effectOf, projected}
+use Rattle.beside.specs.Beside.{Effect, stays, comes-to, Beside, Item, of-hub, aside, effectOf, projected}
 
 -- a list less the entries that are marked
 unfoldable pub less : List Bool → List Entry → List Entry
@@ -18,7 +18,7 @@ less (false ∷ marks) (e ∷ past) = e ∷ less marks past
 
 abbrev pub markSeen : Effect → List Bool → List Bool
 markSeen stays marks = marks
-markSeen (moves t) marks = true ∷ marks
+markSeen (comes-to t) marks = true ∷ marks
 
 module _ (B : Beside) where
   -- the six calls of an extended list, with their answers
