@@ -13,7 +13,7 @@ use Rattle.beside.specs.Extended.{cellsLeft, Extended, before, after, Di
 
 module _ (B : Beside) (law : Lawful B) (P : List ℕ) where
   -- a call beside the hub that moved the clock to t was made where `until t` is accepted
-  until-accepted : (s : List ℕ) (q : B .Ask) (b : B .State) (r : Reply (B .Told)) → r ≡ B .reply P s q b
+  until-accepted : (s : List ℕ) (q : B .Ask) (b : B .State) (r : Reply (B .Told q)) → r ≡ B .reply P s q b
       → (t : ℕ) → effectOf B q r ≡ comes-to t → rowBy P (until t) s ≡ 0
   until-accepted s q b (refusal n) e t f = clash (cc)
   until-accepted s q b (told a) e t f = law .as-until P s q b a t (sym e) f

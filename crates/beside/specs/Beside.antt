@@ -21,20 +21,20 @@ pub record Beside : Type 1 where
   -- what stands beside the hub, and what stands there before any call
   pub State : Type 0
   pub start : State
-  -- the calls beside the hub, and what an accepted one tells
+  -- the calls beside the hub, and what each tells where it is accepted
   pub Ask : Type 0
-  pub Told : Type 0
+  pub Told : Ask → Type 0
   -- what a call must answer, and what an accepted one leaves beside the hub; a refused one changes nothing
-  pub reply : (P s : List ℕ) → Ask → State → Reply Told
+  pub reply : (P s : List ℕ) (q : Ask) → State → Reply (Told q)
   pub next : (P s : List ℕ) → Ask → State → State
   -- what an accepted one does to the clock, by the call and what it told alone
-  pub effect : Ask → Told → Effect
+  pub effect : (q : Ask) → Told q → Effect
   -- it may watch the hub: the cells before a call, the call and its answer
   pub watch : (P s : List ℕ) → Entry → State → State
 
 -- what a request has to prove: its calls move the clock to t only where `until t` is accepted
 pub record Lawful (B : Beside) : Type 0 where
-  pub as-until : (P s : List ℕ) (q : B .Ask) (b : B .State) (a : B .Told) (t : ℕ) → B .reply P s q b ≡ told a → B .effect q a ≡ comes-to t
+  pub as-until : (P s : List ℕ) (q : B .Ask) (b : B .State) (a : B .Told q) (t : ℕ) → B .reply P s q b ≡ told a → B .effect q a ≡ comes-to t
       → rowBy P (until t) s ≡ 0
 
 abbrev pub entry : Call → Answer → Entry
@@ -49,9 +49,9 @@ module _ (B : Beside) where
   -- a call with its answer: one of the hub's six, or one beside it
   pub data Item : Type 0 where
     of-hub : Entry → Item
-    aside : B .Ask → Reply (B .Told) → Item
+    aside : (q : B .Ask) → Reply (B .Told q) → Item
 
-  abbrev pub effectOf : B .Ask → Reply (B .Told) → Effect
+  abbrev pub effectOf : (q : B .Ask) → Reply (B .Told q) → Effect
   effectOf q (refusal n) = stays
   effectOf q (told a) = B .effect q a
 

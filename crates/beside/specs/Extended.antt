@@ -22,13 +22,13 @@ module _ (B : Beside) (P : List ℕ) where
   watching (comes-to t) s b = B .watch P s (entry (until t) taken) b
 
   -- what stands beside the hub after a call beside it
-  abbrev pub stateLeft : B .Ask → Reply (B .Told) → List ℕ → B .State → B .State
+  abbrev pub stateLeft : (q : B .Ask) → Reply (B .Told q) → List ℕ → B .State → B .State
   stateLeft q (refusal n) s b = b
   stateLeft q (told a) s b = watching (B .effect q a) s (B .next P s q b)
 
   -- what a call beside the hub promises for every content: s and b are the hub's cells and what stands beside it at entry, r is the answer, z and c
   -- are both at exit
-  abbrev pub AsidePromise : B .Ask → List ℕ → B .State → Reply (B .Told) → List ℕ → B .State → Type 0
+  abbrev pub AsidePromise : (q : B .Ask) → List ℕ → B .State → Reply (B .Told q) → List ℕ → B .State → Type 0
   AsidePromise q s b r z c = (r ≡ B .reply P s q b) × (z ≡ cellsLeft (effectOf B q r) s) × (c ≡ stateLeft q r s b)
 
   -- what one call did, by its promise
@@ -37,7 +37,7 @@ module _ (B : Beside) (P : List ℕ) where
         → c ≡ B .watch P s (entry call (eventAnswer r)) b → Did s b (of-hub (entry call (eventAnswer r))) z c
     stepping : (t : ℕ) (r : Step) (z : List ℕ) (c : B .State) → StepPromise P t s r z
         → c ≡ B .watch P s (entry (step t) (stepAnswer r)) b → Did s b (of-hub (entry (step t) (stepAnswer r))) z c
-    besides : (q : B .Ask) (r : Reply (B .Told)) (z : List ℕ) (c : B .State) → AsidePromise q s b r z c → Did s b (aside q r) z c
+    besides : (q : B .Ask) (r : Reply (B .Told q)) (z : List ℕ) (c : B .State) → AsidePromise q s b r z c → Did s b (aside q r) z c
 
   -- calls one after the other, the latest first, with what they left beside the hub and of its cells
   pub data Extended : List (Item B) → B .State → List ℕ → Type 0 where
