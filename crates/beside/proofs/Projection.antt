@@ -13,14 +13,14 @@ use Rattle.beside.specs.Extended.{cellsLeft, Extended, before, after, Di
 
 module _ (B : Beside) (law : Lawful B) (P : List ℕ) where
   -- a call beside the hub that moved the clock to t was made where `until t` is accepted
-  until-accepted : (s : List ℕ) (q : B .Ask) (b : B .State) (r : Reply (B .Told q)) → r ≡ B .reply P s q b
+  pub until-accepted : (s : List ℕ) (q : B .Ask) (b : B .State) (r : Reply (B .Told q)) → r ≡ B .reply P s q b
       → (t : ℕ) → effectOf B q r ≡ comes-to t → rowBy P (until t) s ≡ 0
   until-accepted s q b (refusal n) e t f = clash (cc)
   until-accepted s q b (told a) e t f = law .as-until P s q b a t (sym e) f
 
   -- so the hub made that `until`, or nothing
   one-aside : {past : List Entry} {s : List ℕ} → Calls P past s → (x : Effect) → ((t : ℕ) → x ≡ comes-to t → rowBy P (until t) s ≡ 0)
-      → (z : List ℕ) → z ≡ cellsLeft B P x s → Calls P (seen x past) z
+      → (z : List ℕ) → z ≡ cellsLeft P x s → Calls P (seen x past) z
   one-aside {past = past} made stays ok z f = subst (Calls P past) (sym f) made
   one-aside made (comes-to t) ok z f = hub.event made (until t) refl 0 z (sym (ok t refl), f)
 

@@ -27,10 +27,10 @@ module _ (B : Beside) (P : List ℕ) where
       stepping t (stepBy P t s .answer) (stepBy P t s .cells) (B .watch P s (entry (step t) (stepAnswer (stepBy P t s .answer))) b) (refl, refl) refl
 
   did-aside : (s : List ℕ) (b : B .State) (q : B .Ask)
-      → Did B P s b (aside q (B .reply P s q b)) (cellsLeft B P (effectOf B q (B .reply P s q b)) s) (stateLeft B P q (B .reply P s q b) s b)
+      → Did B P s b (aside q (B .reply P s q b)) (cellsLeft P (effectOf B q (B .reply P s q b)) s) (stateLeft B P q (B .reply P s q b) s b)
   did-aside s b q =
       let r = B .reply P s q b in
-      besides q r (cellsLeft B P (effectOf B q r) s) (stateLeft B P q r s b) (refl, refl, refl)
+      besides q r (cellsLeft P (effectOf B q r) s) (stateLeft B P q r s b) (refl, refl, refl)
 
   run-extended : (xs : List (Item B)) → Extended B P (ran B P xs .items) (ran B P xs .state) (ran B P xs .cells)
   unfolding ran

@@ -10,12 +10,12 @@ use Rattle.state.specs.Fresh.{freshCells}
 use Rattle.state.specs.Calls.{isEvent, EventPromise, StepPromise, eventAnswer, stepAnswer, eventBy}
 use Rattle.beside.specs.Beside.{Reply, refusal, told, Effect, stays, comes-to, Beside, entry, Item, of-hub, aside, effectOf}
 
-module _ (B : Beside) (P : List ℕ) where
-  -- the hub's cells after a call beside it
-  abbrev pub cellsLeft : Effect → List ℕ → List ℕ
-  cellsLeft stays s = s
-  cellsLeft (comes-to t) s = eventBy P (until t) s
+-- the hub's cells after a call beside it
+abbrev pub cellsLeft : List ℕ → Effect → List ℕ → List ℕ
+cellsLeft P stays s = s
+cellsLeft P (comes-to t) s = eventBy P (until t) s
 
+module _ (B : Beside) (P : List ℕ) where
   -- a moved clock is watched as the `until` that the hub saw
   abbrev pub watching : Effect → List ℕ → B .State → B .State
   watching stays s b = b
@@ -29,7 +29,7 @@ module _ (B : Beside) (P : List ℕ) where
   -- what a call beside the hub promises for every content: s and b are the hub's cells and what stands beside it at entry, r is the answer, z and c
   -- are both at exit
   abbrev pub AsidePromise : (q : B .Ask) → List ℕ → B .State → Reply (B .Told q) → List ℕ → B .State → Type 0
-  AsidePromise q s b r z c = (r ≡ B .reply P s q b) × (z ≡ cellsLeft (effectOf B q r) s) × (c ≡ stateLeft q r s b)
+  AsidePromise q s b r z c = (r ≡ B .reply P s q b) × (z ≡ cellsLeft P (effectOf B q r) s) × (c ≡ stateLeft q r s b)
 
   -- what one call did, by its promise
   pub data Did (s : List ℕ) (b : B .State) : Item B → List ℕ → B .State → Type 0 where

@@ -3,5 +3,6 @@ pub mod Beside
 pub mod Extended
 pub mod SameHub
 pub mod Continued
+pub mod Both
 pub mod Run
 pub mod Bell

@@ -24,7 +24,7 @@ module _ (B : Beside) where
       record {
         items = aside q now ∷ m .items;
         state = stateLeft B P q now (m .cells) (m .state);
-        cells = cellsLeft B P (effectOf B q now) (m .cells);
+        cells = cellsLeft P (effectOf B q now) (m .cells);
       }
 
   unfoldable pub ran : List ℕ → List (Item B) → Ran
