@@ -1,4 +1,5 @@
--- Of a list with the calls of two tables, what each table saw is an extended list of its own: so what is proved of one table alone holds beside others.
+-- What each of two tables saw of a list with the calls of both is an extended list of its own: so what is proved of one table alone holds
+-- beside others.
 use Prim.Native.Nat.{ℕ}
 use mathlib.Core.Path.{_≡_, refl, sym, ap, ap₂, _∙_, subst₂}
 use mathlib.Core.Bool.{Bool, true, false}

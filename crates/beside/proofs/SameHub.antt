@@ -9,8 +9,8 @@ use Rattle.plan.specs.Reading.{reading}
 use Rattle.plan.specs.Taken.{TakenAs}
 use Rattle.demands.proofs.Sequence.{sequence}
 use Rattle.demands.proofs.Demands.{demands}
-use Rattle.beside.specs.Beside.{Effect, stays, comes-to, Beside, Lawful, seen, Item, of-hub, aside, effectOf, projected}
-use Rattle.beside.specs.Extended.{Extended}
+use Rattle.beside.specs.Beside.{refusal, Effect, stays, comes-to, Beside, Lawful, seen, Item, of-hub, aside, effectOf, projected}
+use Rattle.beside.specs.Extended.{AsidePromise, Extended}
 use Rattle.beside.specs.SameHub.{less, markSeen, sixCalls, putThere, SameHub, ExtendedDemands}
 use Rattle.beside.proofs.Projection.{projects}
 
@@ -25,6 +25,11 @@ unfolding less sixCalls putThere projected
 six-kept B [] = refl
 six-kept B (of-hub e ∷ xs) = ap (_∷_ e) (six-kept B xs)
 six-kept B (aside q r ∷ xs) = six-kept B xs ∙ sym (seen-less (effectOf B q r) (putThere B xs) (projected B xs))
+
+-- demand 1 of calls beside the hub: a refusal changes neither the hub's cells nor what stands beside it
+pub refused-aside : (B : Beside) (P : List ℕ) (q : B .Ask) (n : ℕ) (s z : List ℕ) (b c : B .State) → AsidePromise B P q s b (refusal n) z c
+    → (z ≡ s) × (c ≡ b)
+refused-aside B P q n s z b c p = (p .1, p .2)
 
 module _ (B : Beside) (law : Lawful B) where
   pub same-hub : (P : List ℕ) {xs : List (Item B)} {b : B .State} {s : List ℕ} → Extended B P xs b s → SameHub B P xs s

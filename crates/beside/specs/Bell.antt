@@ -68,7 +68,8 @@ bell =
 abbrev pub P01 : List ℕ
 P01 = reading plan01 .tables
 
--- Both kinds of calls, here in the order in which they are made. The bell rings at a frame's start, which brings node 3's reservation into force.
+-- Both kinds of calls, here in the order in which they are made. The bell rings at a frame's start, which brings node 3's reservation into
+-- force.
 abbrev pub worked : List (Item bell)
 worked =
     reverse

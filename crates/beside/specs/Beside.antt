@@ -40,7 +40,7 @@ pub record Lawful (B : Beside) : Type 0 where
 abbrev pub entry : Call → Answer → Entry
 entry call answer = record { call = call; answer = answer }
 
--- what the hub saw of a call beside it, before what it had seen: nothing, or an accepted `until`
+-- what the hub saw of a call beside it, in front of its past: nothing, or an accepted `until`
 abbrev pub seen : Effect → List Entry → List Entry
 seen stays past = past
 seen (comes-to t) past = entry (until t) taken ∷ past
@@ -51,11 +51,12 @@ module _ (B : Beside) where
     of-hub : Entry → Item
     aside : (q : B .Ask) → Reply (B .Told q) → Item
 
+  -- a refused call does nothing
   abbrev pub effectOf : (q : B .Ask) → Reply (B .Told q) → Effect
   effectOf q (refusal n) = stays
   effectOf q (told a) = B .effect q a
 
-  -- The projection: an extended list as the hub saw it, the latest first.
+  -- The projection: an extended list as the hub saw it, the latest call first.
   unfoldable pub projected : List Item → List Entry
   projected [] = []
   projected (of-hub e ∷ xs) = e ∷ projected xs

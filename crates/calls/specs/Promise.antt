@@ -1,5 +1,5 @@
--- What a list of calls made as one call promises: its number, both tables left behind, and that these calls with the answers that then stand in the
--- table are a list of calls, so that all the demands hold of it.
+-- What a list of calls made as one call promises: its number, both tables left behind, and that these calls, with the answers that then stand
+-- in the table, are a list of calls, so that all the demands hold of it.
 use Prim.Native.Nat.{ℕ}
 use mathlib.Core.Path.{_≡_}
 use mathlib.Core.Bool.{true, false}
