@@ -70,17 +70,17 @@ listed P cs past i (suc n) s ans l made =
     (listed P cs past (i + 1) n (o .cells) (putSix i x ans) (rw (length-put i x ans) (omega arith))
     (rw (entries-more P cs s ans i (omega arith)) (one-more P made (callAt cs i))))
 
--- what stands in both tables at the end of the list meets the demands
-meets : (P cs s ans : List ℕ) → countOf cs * 6 ≤ length ans
-    → (text : List ℕ) (nodes hubs at line : ℕ) → TakenAs text nodes hubs at line → P ≡ reading text .tables
-    → (past : List Entry) → Calls P past s
-    → Demands P (planOf P) (entries cs (listFrom P cs 0 (countOf cs) s ans .answers) (countOf cs) ++ past) (listFrom P cs 0 (countOf cs) s ans .cells)
+-- what stands in both tables at the end is a list of calls
+all-listed : (P cs s ans : List ℕ) → countOf cs * 6 ≤ length ans → (past : List Entry) → Calls P past s
+    → Calls P (entries cs (listFrom P cs 0 (countOf cs) s ans .answers) (countOf cs) ++ past) (listFrom P cs 0 (countOf cs) s ans .cells)
 unfolding entries
-meets P cs s ans l text nodes hubs at line t e past made =
-    let o = listFrom P cs 0 (countOf cs) s ans in
-    let now = entries cs (o .answers) (countOf cs) ++ past in
-    subst (λ (Q : List ℕ). Calls Q now (o .cells) → Demands Q (planOf Q) now (o .cells)) (sym e) (demands text nodes hubs at line t now (o .cells))
-    (rw (zero-add (countOf cs)) at (listed P cs past 0 (countOf cs) s ans (omega arith) made))
+all-listed P cs s ans l past made = rw (zero-add (countOf cs)) at (listed P cs past 0 (countOf cs) s ans (omega arith) made)
+
+-- so that it meets the demands
+meets : (P : List ℕ) (text : List ℕ) (nodes hubs at line : ℕ) → TakenAs text nodes hubs at line → P ≡ reading text .tables
+    → (past : List Entry) (z : List ℕ) → Calls P past z → Demands P (planOf P) past z
+meets P text nodes hubs at line t e past z =
+    subst (λ (Q : List ℕ). Calls Q past z → Demands Q (planOf Q) past z) (sym e) (demands text nodes hubs at line t past z)
 
 -- ---- the number
 
@@ -109,6 +109,7 @@ module _ (P s cs ans : List ℕ) where
         number = e;
         cells = rw n;
         answers = rw n;
+        list = λ past made z. absurd (d z);
         demands = λ text nodes hubs at line t same past made z. absurd (d z);
       }
 
@@ -123,5 +124,9 @@ module _ (P s cs ans : List ℕ) where
         number = sym n;
         cells = rw y g;
         answers = rw y h;
-        demands = λ text nodes hubs at line t same past made q. rw (g, h) (meets P cs s ans (ready cs ans n .room) text nodes hubs at line t same past made);
+        list = λ past made q. calls-made past made;
+        demands = λ text nodes hubs at line t same past made q. meets P text nodes hubs at line t same (entries cs bs (countOf cs) ++ past) z (calls-made past made);
       }
+    where
+      calls-made : (past : List Entry) → Calls P past s → Calls P (entries cs bs (countOf cs) ++ past) z
+      calls-made past made = rw (g, h) (all-listed P cs s ans (ready cs ans (sym e ∙ f) .room) past made)

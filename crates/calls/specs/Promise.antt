@@ -1,4 +1,5 @@
--- What a list of calls made as one call promises: its number, both tables left behind, and demand 3 of what then stands in the answers' table.
+-- What a list of calls made as one call promises: its number, both tables left behind, and that these calls, with the answers that then stand
+-- in the table, are a list of calls, so that all the demands hold of it.
 use Prim.Native.Nat.{ℕ}
 use mathlib.Core.Path.{_≡_}
 use mathlib.Core.Bool.{true, false}
@@ -23,8 +24,9 @@ module _ (P s cs ans : List ℕ) where
     pub number : r ≡ listNumber cs ans
     pub cells : z ≡ listBy .cells
     pub answers : bs ≡ listBy .answers
-    -- for a plan text that was taken, behind any calls `past` from its fresh table: these calls with the answers that now stand in the table are a list of calls
-    -- too, so that all the demands hold of it, demand 3 among them
+    -- behind any calls `past` from the fresh table, these calls with the answers that now stand in the table are a list of calls too
+    pub list : (past : List Entry) → Calls P past s → r ≡ 0 → Calls P (entries cs bs (countOf cs) ++ past) z
+    -- so that, for a plan text that was taken, all the demands hold of it, demand 3 among them
     pub demands : (text : List ℕ) (nodes hubs at line : ℕ) → TakenAs text nodes hubs at line → P ≡ reading text .tables
         → (past : List Entry) → Calls P past s → r ≡ 0
         → Demands P (planOf P) (entries cs bs (countOf cs) ++ past) z
