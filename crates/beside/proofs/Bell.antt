@@ -20,14 +20,14 @@ use Rattle.rules.proofs.Laws.Clash.{clash}
 use Rattle.ports.specs.Mask.{shows, maskUpTo}
 use Rattle.ports.specs.Ports.{withPort, putPort, atOrAfter, anyUpTo}
 use Rattle.ports.specs.Search.{firstOf, lowestFrom}
-use Rattle.state.specs.Layout.{putTime}
-use Rattle.state.specs.Decode.{planIn, coreOf, controlOf}
-use Rattle.state.specs.Fresh.{pointed, freshCells}
-use Rattle.state.specs.Masks.{mend, mendNode, putRequest, grantNode}
-use Rattle.state.specs.Frames.{startCells, startNode, startNodes, advanceBy}
-use Rattle.state.specs.Instants.{soughtBy, restingDue, dueBy}
-use Rattle.state.specs.Turns.{downBy, takeBy, upBy, handUpBy, foundBy, lookBy, afterLook, walkBy, nearerBy, nearestBy, walked, settled, chooseBy}
-use Rattle.state.specs.Calls.{rowsBy, rowBy, changeBy, eventBy, busyUntil, resting, grantBy, restBy, handledBy, stepDue, stepBy, stepAnswer, eventLeft, performBy}
+use Rattle.cells.specs.Layout.{putTime}
+use Rattle.cells.specs.Decode.{planIn, coreOf, controlOf}
+use Rattle.cells.specs.Fresh.{pointed, freshCells}
+use Rattle.cells.specs.Masks.{mend, mendNode, putRequest, grantNode}
+use Rattle.cells.specs.Frames.{startCells, startNode, startNodes, advanceBy}
+use Rattle.cells.specs.Instants.{soughtBy, restingDue, dueBy}
+use Rattle.cells.specs.Turns.{downBy, takeBy, upBy, handUpBy, foundBy, lookBy, afterLook, walkBy, nearerBy, nearestBy, walked, settled, chooseBy}
+use Rattle.cells.specs.Calls.{rowsBy, rowBy, changeBy, eventBy, busyUntil, resting, grantBy, restBy, handledBy, stepDue, stepBy, stepAnswer, eventLeft, performBy}
 use Rattle.beside.specs.Beside.{told, comes-to, Lawful, projected}
 use Rattle.beside.specs.Extended.{Extended}
 use Rattle.beside.specs.Run.{ran}

@@ -6,7 +6,7 @@ use mathlib.Core.Bool.{Bool, true, false}
 use mathlib.Core.List.{List, [], _∷_}
 use Rattle.rules.specs.Call.{until}
 use Rattle.rules.specs.Run.{Entry}
-use Rattle.state.specs.Calls.{rowBy}
+use Rattle.cells.specs.Calls.{rowBy}
 use Rattle.beside.specs.Beside.{Reply, refusal, told, Effect, stays, comes-to, Beside, Lawful, seen, Item, of-hub, aside, effectOf, projected}
 use Rattle.beside.specs.Extended.{cellsLeft, watching, stateLeft, AsidePromise, Extended, before, after, event, stepping, besides}
 use Rattle.beside.specs.Both.{Either, on, States, putIn, both, seenItem, oneItem, oneOf}

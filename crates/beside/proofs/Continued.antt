@@ -4,9 +4,9 @@ use mathlib.Core.Path.{_≡_, refl, sym, ap, _∙_, subst}
 use mathlib.Core.List.{List, [], _∷_, _++_, map, append-nil}
 use Rattle.rules.specs.Call.{step}
 use Rattle.rules.specs.Run.{Entry}
-use Rattle.state.specs.Fresh.{freshCells}
-use Rattle.state.specs.Calls.{performBy, eventAnswer, stepAnswer}
-use Rattle.state.specs.Run.{madeBy}
+use Rattle.cells.specs.Fresh.{freshCells}
+use Rattle.cells.specs.Calls.{performBy, eventAnswer, stepAnswer}
+use Rattle.cells.specs.Run.{madeBy}
 use Rattle.demands.specs.Demands as hub
 use Rattle.demands.specs.Demands.{Calls, callsOf}
 use Rattle.demands.proofs.Sequence.{sequence}

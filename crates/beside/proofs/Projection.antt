@@ -5,7 +5,7 @@ use mathlib.Core.List.{List, [], _∷_}
 use Rattle.rules.specs.Call.{until}
 use Rattle.rules.specs.Run.{Entry}
 use Rattle.rules.proofs.Laws.Clash.{clash}
-use Rattle.state.specs.Calls.{rowBy}
+use Rattle.cells.specs.Calls.{rowBy}
 use Rattle.demands.specs.Demands as hub
 use Rattle.demands.specs.Demands.{Calls}
 use Rattle.beside.specs.Beside.{Reply, refusal, told, Effect, stays, comes-to, Beside, Lawful, seen, Item, effectOf, projected}

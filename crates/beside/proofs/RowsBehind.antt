@@ -6,8 +6,8 @@ use Rattle.rules.specs.Call.{until}
 use Rattle.rules.specs.Rows.{Row, Verdict, accept, refuse, firstRow}
 use Rattle.rules.proofs.Laws.Passes.{Which, which, yes′, no′}
 use Rattle.rules.proofs.Laws.Clash.{clash}
-use Rattle.state.specs.Decode.{planIn}
-use Rattle.state.specs.Calls.{rowsBy, numberOf, rowBy}
+use Rattle.cells.specs.Decode.{planIn}
+use Rattle.cells.specs.Calls.{rowsBy, numberOf, rowBy}
 
 -- where no row applies, none of the first ones does
 first-ones : (rows own : List Row) → firstRow (rows ++ own) ≡ accept → firstRow rows ≡ accept

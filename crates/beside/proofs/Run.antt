@@ -4,7 +4,7 @@ use mathlib.Core.Path.{_≡_, refl, subst}
 use mathlib.Core.Bool.{true}
 use mathlib.Core.List.{List, [], _∷_}
 use Rattle.rules.specs.Call.{Call, ask, off, reserve, until, step}
-use Rattle.state.specs.Calls.{isEvent, eventAnswer, stepAnswer, rowBy, eventBy, stepBy, eventLeft, performBy}
+use Rattle.cells.specs.Calls.{isEvent, eventAnswer, stepAnswer, rowBy, eventBy, stepBy, eventLeft, performBy}
 use Rattle.beside.specs.Beside.{Beside, entry, Item, of-hub, aside, effectOf}
 use Rattle.beside.specs.Extended.{cellsLeft, stateLeft, Extended, before, after, Did, event, stepping, besides}
 use Rattle.beside.specs.Run.{ran}

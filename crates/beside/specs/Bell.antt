@@ -9,8 +9,8 @@ use Rattle.rules.specs.Run.{Entry}
 use Rattle.plan.specs.Tables.{planOf}
 use Rattle.plan.specs.Reading.{reading}
 use Rattle.plan.specs.Taken.{TakenAs}
-use Rattle.state.specs.Decode.{planIn}
-use Rattle.state.specs.Calls.{rowsBy}
+use Rattle.cells.specs.Decode.{planIn}
+use Rattle.cells.specs.Calls.{rowsBy}
 use Rattle.trials.specs.Plans.{plan01}
 use Rattle.beside.specs.Beside.{Reply, refusal, told, Effect, stays, comes-to, Beside, entry, Item, of-hub, aside, projected}
 use Rattle.beside.specs.Extended.{Extended}

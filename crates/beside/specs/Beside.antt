@@ -4,7 +4,7 @@ use mathlib.Core.Path.{_≡_}
 use mathlib.Core.List.{List, [], _∷_}
 use Rattle.rules.specs.Call.{Call, until, Answer, taken}
 use Rattle.rules.specs.Run.{Entry}
-use Rattle.state.specs.Calls.{rowBy}
+use Rattle.cells.specs.Calls.{rowBy}
 
 -- a call beside the hub is refused with its number, or accepted and tells something
 pub data Reply (A : Type 0) : Type 0 where

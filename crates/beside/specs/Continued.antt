@@ -1,8 +1,8 @@
--- An extended list goes on by calls of the hub that were made as one list, as `calls::list` makes them.
+-- An extended list goes on by calls of the hub that were made as one list, as `call_list::list` makes them.
 use Prim.Native.Nat.{ℕ}
 use mathlib.Core.List.{List, [], _∷_}
 use Rattle.rules.specs.Run.{Entry}
-use Rattle.state.specs.Calls.{performBy}
+use Rattle.cells.specs.Calls.{performBy}
 use Rattle.beside.specs.Beside.{Beside}
 
 module _ (P s : List ℕ) where

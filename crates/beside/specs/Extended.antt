@@ -5,9 +5,9 @@ use mathlib.Core.Bool.{true}
 use mathlib.Core.List.{List, [], _∷_}
 use Rattle.rules.specs.Call.{Call, until, step, taken}
 use Rattle.rules.specs.Run.{Entry}
-use Rattle.state.specs.declared.Step.{Step}
-use Rattle.state.specs.Fresh.{freshCells}
-use Rattle.state.specs.Calls.{isEvent, EventPromise, StepPromise, eventAnswer, stepAnswer, eventBy}
+use Rattle.cells.specs.declared.Step.{Step}
+use Rattle.cells.specs.Fresh.{freshCells}
+use Rattle.cells.specs.Calls.{isEvent, EventPromise, StepPromise, eventAnswer, stepAnswer, eventBy}
 use Rattle.beside.specs.Beside.{Reply, refusal, told, Effect, stays, comes-to, Beside, entry, Item, of-hub, aside, effectOf}
 
 -- the hub's cells after a call beside it

@@ -1,8 +1,8 @@
 -- An extended list by computing: calls without their answers are made one after the other.
 use Prim.Native.Nat.{ℕ}
 use mathlib.Core.List.{List, [], _∷_}
-use Rattle.state.specs.Fresh.{freshCells}
-use Rattle.state.specs.Calls.{performBy}
+use Rattle.cells.specs.Fresh.{freshCells}
+use Rattle.cells.specs.Calls.{performBy}
 use Rattle.beside.specs.Beside.{Beside, entry, Item, of-hub, aside, effectOf}
 use Rattle.beside.specs.Extended.{cellsLeft, stateLeft}
 

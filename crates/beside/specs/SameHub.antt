@@ -5,7 +5,7 @@ use mathlib.Core.Bool.{Bool, true, false}
 use mathlib.Core.List.{List, [], _∷_}
 use Rattle.rules.specs.Plan.{Plan}
 use Rattle.rules.specs.Run.{Entry}
-use Rattle.state.specs.Run.{madeBy}
+use Rattle.cells.specs.Run.{madeBy}
 use Rattle.demands.specs.Demands.{Calls, callsOf, Demands}
 use Rattle.beside.specs.Beside.{Effect, stays, comes-to, Beside, Item, of-hub, aside, effectOf, projected}
 

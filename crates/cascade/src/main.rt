@@ -1,13 +1,13 @@
 // Reads a text on standard input, at most 65,536 bytes, and writes its log to standard output.
+use cells::Cascade;
 use libc::STDIN_FILENO;
 use libc::STDOUT_FILENO;
 use plan::Plan;
-use state::Cascade;
 use writer::Put;
 
 // The log of a text, through what is lent.
 fn write_log(text: &[u8], plan: &mut Plan, s: &mut Cascade, out: &mut [u8]) {
-    match session::run(text, plan, s, out) {
+    match text_run::run(text, plan, s, out) {
         Put::Behind(end) => {
             io::write_all(STDOUT_FILENO, &out[..end]);
         }
@@ -20,7 +20,7 @@ fn write_whole(text: &[u8], plan: &mut Plan, s: &mut Cascade, out: &mut [u8; 117
     write_log(text, plan, s, out);
 }
 
-// 18 times 65,536 bytes have room for every log: `log-bound` in crates/logbook/proofs/LogLength.antt.
+// 18 times 65,536 bytes have room for every log: `log-bound` in crates/log_spec/proofs/LogLength.antt.
 fn main() {
     let mut text = io::large_buffer();
     let n = io::read_full(STDIN_FILENO, &mut text);

@@ -21,16 +21,16 @@ use Rattle.rules.proofs.Control.FollowsFlat.{control-follows}
 use Rattle.plan.specs.Tables.{planOf}
 use Rattle.plan.specs.Reading.{reading}
 use Rattle.plan.specs.Taken.{TakenAs}
-use Rattle.promises.specs.Promises.{Promises}
-use Rattle.promises.proofs.Promises.{drawn-promises}
-use Rattle.state.specs.Layout.{timeAt, clock-cell}
-use Rattle.state.specs.Decode.{planIn, coreOf, controlOf, hubOf}
-use Rattle.state.specs.Calls.{performBy}
-use Rattle.state.specs.Run.{madeBy}
-use Rattle.tie.specs.Kept.{Ready}
-use Rattle.tie.proofs.ReadyPlan.{ready, plan-in}
-use Rattle.tie.proofs.Performed.{Agrees, performed}
-use Rattle.tie.proofs.Runs.{RunTied, run-tied}
+use Rattle.demands.specs.Promises.{Promises}
+use Rattle.demands.proofs.Promises.{drawn-promises}
+use Rattle.cells.specs.Layout.{timeAt, clock-cell}
+use Rattle.cells.specs.Decode.{planIn, coreOf, controlOf, hubOf}
+use Rattle.cells.specs.Calls.{performBy}
+use Rattle.cells.specs.Run.{madeBy}
+use Rattle.refinement.specs.Kept.{Ready}
+use Rattle.refinement.proofs.ReadyPlan.{ready, plan-in}
+use Rattle.refinement.proofs.Performed.{Agrees, performed}
+use Rattle.refinement.proofs.Runs.{RunTied, run-tied}
 use Rattle.demands.specs.Demands.{Calls, callsOf, Demands}
 use Rattle.demands.proofs.Unchanged.{refusal-unchanged, quiet-unchanged}
 use Rattle.demands.proofs.Sequence.{Made, sequence}

@@ -6,10 +6,10 @@ use mathlib.Core.List.{List, [], _∷_}
 use Rattle.rules.specs.Call.{Call, ask, off, reserve, until, step, Answer}
 use Rattle.rules.specs.Run.{Entry}
 use Rattle.rules.proofs.Laws.Passes.{true-false}
-use Rattle.state.specs.declared.Step.{Step}
-use Rattle.state.specs.Fresh.{freshCells}
-use Rattle.state.specs.Calls.{isEvent, EventPromise, StepPromise, eventAnswer, stepAnswer, rowBy, eventBy, eventLeft, performBy}
-use Rattle.state.specs.Run.{madeBy}
+use Rattle.cells.specs.declared.Step.{Step}
+use Rattle.cells.specs.Fresh.{freshCells}
+use Rattle.cells.specs.Calls.{isEvent, EventPromise, StepPromise, eventAnswer, stepAnswer, rowBy, eventBy, eventLeft, performBy}
+use Rattle.cells.specs.Run.{madeBy}
 use Rattle.demands.specs.Demands.{Calls, before, event, stepping, callsOf}
 
 pub record Made (P : List ℕ) (past : List Entry) (s : List ℕ) : Type 0 where

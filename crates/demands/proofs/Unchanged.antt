@@ -7,14 +7,14 @@ use lib.Dec.{eqb, ltb}
 use Rattle.rules.specs.Choice.{if_then_else_}
 use Rattle.rules.specs.Call.{Call, ask, off, reserve, until, step, Answer, taken, refused, grant, rest, quiet}
 use Rattle.rules.proofs.Laws.Passes.{Which, which, yes′, no′}
-use Rattle.state.specs.declared.Due.{Due}
-use Rattle.state.specs.declared.Due.the-variants.{At, Never}
-use Rattle.state.specs.declared.Sought.{Sought}
-use Rattle.state.specs.declared.Sought.the-variants as seek
-use Rattle.state.specs.Decode.{planIn}
-use Rattle.state.specs.Frames.{advanceBy}
-use Rattle.state.specs.Instants.{dueBy, soughtBy}
-use Rattle.state.specs.Calls.{rowBy, eventBy, grantBy, restBy, handledBy, stepDue, stepBy, eventAnswer, stepAnswer, eventLeft, performBy}
+use Rattle.cells.specs.declared.Due.{Due}
+use Rattle.cells.specs.declared.Due.the-variants.{At, Never}
+use Rattle.cells.specs.declared.Sought.{Sought}
+use Rattle.cells.specs.declared.Sought.the-variants as seek
+use Rattle.cells.specs.Decode.{planIn}
+use Rattle.cells.specs.Frames.{advanceBy}
+use Rattle.cells.specs.Instants.{dueBy, soughtBy}
+use Rattle.cells.specs.Calls.{rowBy, eventBy, grantBy, restBy, handledBy, stepDue, stepBy, eventAnswer, stepAnswer, eventLeft, performBy}
 
 -- an answer that says that something was done: an event was taken, or an instant was handled
 abbrev Done : Answer → Type 0

@@ -1,4 +1,4 @@
--- The demands, of the entry points as they can be called. Their contracts (hub/src/lib.rt, table/src/lib.rt) are these, for every content of both tables:
+-- The demands, of the entry points as they can be called. Their contracts (hub/src/lib.rt, requests/src/lib.rt) are these, for every content of both tables:
 --
 --   fresh(s)                 leaves freshCells
 --   normal(p, s, t, k, b)    EventPromise P (ask normal t k b) s r z
@@ -26,11 +26,11 @@ use Rattle.rules.specs.Travel.{Travels}
 use Rattle.rules.specs.Demand.{Holds3}
 use Rattle.rules.specs.AnyMoment.{AnyMoment}
 use Rattle.rules.specs.Promises.{NoTimeLost, Admits, Acceptable}
-use Rattle.state.specs.declared.Step.{Step}
-use Rattle.state.specs.Layout.{timeAt, clock-cell}
-use Rattle.state.specs.Decode.{hubOf, coreOf}
-use Rattle.state.specs.Fresh.{freshCells}
-use Rattle.state.specs.Calls.{isEvent, EventPromise, StepPromise, eventAnswer, stepAnswer, performBy}
+use Rattle.cells.specs.declared.Step.{Step}
+use Rattle.cells.specs.Layout.{timeAt, clock-cell}
+use Rattle.cells.specs.Decode.{hubOf, coreOf}
+use Rattle.cells.specs.Fresh.{freshCells}
+use Rattle.cells.specs.Calls.{isEvent, EventPromise, StepPromise, eventAnswer, stepAnswer, performBy}
 
 -- A list of calls made one after the other on one table, with their answers, the latest first, and the table that they left: the first call gets the
 -- fresh table, each later one what the last left, and nobody else writes to it meanwhile. Refused calls and quiet steps stand in it too.

@@ -1,4 +1,4 @@
 -- What the functions' proofs cite.
-pub mod Turning
+pub mod Reclassing
 pub mod Sums
 pub mod Starting

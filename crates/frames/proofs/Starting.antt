@@ -7,10 +7,10 @@ use native.Mathlib.Nat.{add-zero}
 use native.Mathlib.Numerals.{unary-clauses}
 use lib.ListN.{getD}
 use borrow.Author.Tests.{lt-ltb, le-ltb}
-use Rattle.state.specs.Layout.{clock-cell, putTime}
-use Rattle.state.specs.Decode.{planIn}
-use Rattle.state.specs.Masks.{mendNode}
-use Rattle.state.specs.Frames.{startCells, startNode, startNodes, newFrame, advanceBy}
+use Rattle.cells.specs.Layout.{clock-cell, putTime}
+use Rattle.cells.specs.Decode.{planIn}
+use Rattle.cells.specs.Masks.{mendNode}
+use Rattle.cells.specs.Frames.{startCells, startNode, startNodes, newFrame, advanceBy}
 
 module _ (P s : List ℕ) (k : ℕ) where
   pub starts-low : getD s (136 + (k - 1) * 4) 0 < 131072 → startCells k s ≡ startNode P k s

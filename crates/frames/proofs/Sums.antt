@@ -11,8 +11,8 @@ use Rattle.rules.specs.Choice.{sum}
 use Rattle.rules.specs.Rows.{load, loads}
 use Rattle.rules.proofs.Laws.Passes.{sum-same}
 use Rattle.plan.specs.Tables.{planOf}
-use Rattle.state.specs.Layout.{shareOf, latestCell}
-use Rattle.state.specs.Decode.{planIn, coreOf}
+use Rattle.cells.specs.Layout.{shareOf, latestCell}
+use Rattle.cells.specs.Decode.{planIn, coreOf}
 
 -- each load is below 2^50
 pub load-small :

@@ -1,16 +1,16 @@
 // Frames: the clock, what a frame's start changes, and the sum of all reservations.
-// No public function has a `requires`: each says its answer and the whole table that it leaves, for every content, by a definition of `state`.
+// No public function has a `requires`: each says its answer and the whole table that it leaves, for every content, by a definition of `cells`.
+use cells::Cascade;
 use plan::Plan;
-use state::Cascade;
 ghost use mathlib.Core.Path.{_≡_};
 ghost use Prim.Native.Nat.{_+_, _*_, _/_, _%_, _≤_, _<_};
 ghost use lib.ListN.{getD};
 ghost use Rattle.rules.specs.Choice.{sum};
-ghost use Rattle.rules.specs.Core.{turned};
+ghost use Rattle.rules.specs.Core.{reclassed};
 ghost use Rattle.rules.specs.Rows.{load, loads};
-ghost use Rattle.state.specs.Layout.{requestOf, requestCode, shareOf, latestCell};
-ghost use Rattle.state.specs.Decode.{planIn, coreOf};
-ghost use Rattle.state.specs.Frames.{startCells, startNode, startNodes, newFrame, advanceBy};
+ghost use Rattle.cells.specs.Layout.{requestOf, requestCode, shareOf, latestCell};
+ghost use Rattle.cells.specs.Decode.{planIn, coreOf};
+ghost use Rattle.cells.specs.Frames.{startCells, startNode, startNodes, newFrame, advanceBy};
 
 // How many nodes the plan has; no more than the table has cells for.
 pub fn nodes(p: &Plan) -> u32
@@ -31,8 +31,8 @@ pub fn frame_of(frame: u32, t: u64) -> u64
 }
 
 // What becomes of a request's cell at a frame's start, by the reservation that comes into force.
-fn turned(share: u32, x: u32) -> u32
-    ensures { λ r. ⌜ r ≡ requestCode (turned (shareOf share) (requestOf x)) ⌝ }
+fn reclassed(share: u32, x: u32) -> u32
+    ensures { λ r. ⌜ r ≡ requestCode (reclassed (shareOf share) (requestOf x)) ⌝ }
 {
     if x < 65536 {
         return 0;
@@ -56,7 +56,7 @@ fn start_cells(s: &mut Cascade, k: u32)
 {
     let at = 136 + (k as usize - 1) * 4;
     let share = s[at + 2];
-    s[at] = turned(share, s[at]);
+    s[at] = reclassed(share, s[at]);
     s[at + 1] = share;
     s[at + 3] = 0;
 }
@@ -72,7 +72,7 @@ fn start_node(p: &Plan, s: &mut Cascade, k: u32)
     if x < 131072 {
         return;
     }
-    table::mend_node(p, s, k);
+    requests::mend_node(p, s, k);
 }
 
 // Nodes n to 1.
@@ -91,7 +91,7 @@ fn start_nodes(p: &Plan, s: &mut Cascade, n: u32)
 pub fn new_frame(p: &Plan, s: &Cascade, t: u64) -> bool
     ensures { λ r. ⌜ r ≡ newFrame (planIn (now (p .entry))) t (now (s .entry)) ⌝ }
 {
-    frame_of(p[0], table::clock(s)) < frame_of(p[0], t)
+    frame_of(p[0], requests::clock(s)) < frame_of(p[0], t)
 }
 
 // The clock comes to t.
@@ -101,7 +101,7 @@ pub fn advance(p: &Plan, s: &mut Cascade, t: u64)
     if new_frame(p, s, t) {
         start_nodes(p, s, nodes(p));
     }
-    table::put_clock(s, t);
+    requests::put_clock(s, t);
 }
 
 // n × (b + O) of a reservation's cell.

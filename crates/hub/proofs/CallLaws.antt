@@ -12,12 +12,12 @@ use Rattle.rules.specs.Call.{Class, Call, ask, off, reserve, until, step, time}
 use Rattle.rules.specs.Rows.{Row, last-time, row13, row14, row15, row15r, row16, row17}
 use Rattle.rules.specs.Promises.{InRange, given-up, packets}
 use Rattle.rules.proofs.Core.RowsPassed.{passed11, passed13, passed14, passed15, passed15r}
-use Rattle.state.specs.declared.Step.the-variants.{Refused}
-use Rattle.state.specs.Layout.{half, timeAt, clock-cell}
-use Rattle.state.specs.Decode.{planIn, coreOf}
-use Rattle.state.specs.Frames.{advanceBy}
-use Rattle.state.specs.Instants.{dueBy}
-use Rattle.state.specs.Calls.{rowsBy, rowBy, changeBy, eventBy, stepDue, stepBy}
+use Rattle.cells.specs.declared.Step.the-variants.{Refused}
+use Rattle.cells.specs.Layout.{half, timeAt, clock-cell}
+use Rattle.cells.specs.Decode.{planIn, coreOf}
+use Rattle.cells.specs.Frames.{advanceBy}
+use Rattle.cells.specs.Instants.{dueBy}
+use Rattle.cells.specs.Calls.{rowsBy, rowBy, changeBy, eventBy, stepDue, stepBy}
 use Rattle.hub.proofs.FirstRow.{rowOf, numbered, Passed, all-pass, stops, goes-on}
 
 rows-numbered : (p : Plan) (s : List ℕ) (call : Call) → numbered (rowsBy p s call) ≡ true

@@ -7,7 +7,7 @@ use lib.Dec.{eqb}
 use borrow.Author.Tests.{eq-eqb}
 use Rattle.rules.specs.Rows.{Row, firstRow}
 use Rattle.rules.proofs.Laws.Passes.{Which, which, yes′, no′, true-false, and-both}
-use Rattle.state.specs.Calls.{numberOf}
+use Rattle.cells.specs.Calls.{numberOf}
 
 -- 0, or the number of the first row that applies
 abbrev pub rowOf : List Row → ℕ

@@ -13,9 +13,9 @@ use Rattle.rules.specs.Drawn.{Within}
 use Rattle.rules.specs.Core.{Share, advance, bitsOf}
 use Rattle.rules.specs.Rows.{load, loads, row16, row17}
 use Rattle.rules.proofs.Laws.Passes.{Which, which, yes′, no′, sum-same, sum-put}
-use Rattle.state.specs.Layout.{half, classOf, forceCell, latestCell, shareOf, shareCode, requestOf}
-use Rattle.state.specs.Decode.{isNode, coreOf}
-use Rattle.state.specs.Frames.{newFrame}
+use Rattle.cells.specs.Layout.{half, classOf, forceCell, latestCell, shareOf, shareCode, requestOf}
+use Rattle.cells.specs.Decode.{isNode, coreOf}
+use Rattle.cells.specs.Frames.{newFrame}
 
 pub share-coded : (n b : ℕ) → b < half → shareOf (shareCode n b) ≡ record { packets = n; bits = b }
 share-coded n b h =

@@ -1,16 +1,16 @@
 // The due instant and the class sought, read off the root's two masks and the number of standing requests.
+use cells::Cascade;
+use cells::Due;
+use cells::Sought;
 use plan::Plan;
-use state::Cascade;
-use state::Due;
-use state::Sought;
 ghost use mathlib.Core.Path.{_≡_};
 ghost use mathlib.Core.Bool.{true, false, _||_};
 ghost use Prim.Native.Nat.{_+_, _*_, _/_, _≤_};
 ghost use Rattle.rules.specs.Core.{before};
 ghost use Rattle.rules.specs.Rows.{last-time};
-ghost use Rattle.state.specs.Layout.{timeAt, clock-cell};
-ghost use Rattle.state.specs.Decode.{planIn};
-ghost use Rattle.state.specs.Instants.{rootShows, soughtBy, restingDue, dueBy, dueIn};
+ghost use Rattle.cells.specs.Layout.{timeAt, clock-cell};
+ghost use Rattle.cells.specs.Decode.{planIn};
+ghost use Rattle.cells.specs.Instants.{rootShows, soughtBy, restingDue, dueBy, dueIn};
 
 // Whether the root sees a request that counts.
 fn some_counts(s: &Cascade) -> bool
@@ -27,7 +27,7 @@ fn resting_due(p: &Plan, s: &Cascade) -> Due
     requires { ⌜ timeAt (now s) clock-cell ≤ last-time ⌝ }
     ensures { λ r. ⌜ r ≡ restingDue (planIn (now (p .entry))) (now (s .entry)) ⌝ }
 {
-    let clock = table::clock(s);
+    let clock = requests::clock(s);
     if some_counts(s) {
         return Due::At(clock);
     }
@@ -50,7 +50,7 @@ pub(crate) fn due(p: &Plan, s: &Cascade) -> Due
     ensures { λ r. ⌜ r ≡ dueBy (planIn (now (p .entry))) (now (s .entry)) ⌝ }
 {
     if s[4] != 0 {
-        return Due::At(table::line_end(s));
+        return Due::At(requests::line_end(s));
     }
     resting_due(p, s)
 }

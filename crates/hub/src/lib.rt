@@ -1,19 +1,19 @@
 // The cascade hub: the five events and the step.
-// No public function has a `requires`: each says its answer and the whole table that it leaves, for every content of both tables, by a definition of `state`.
+// No public function has a `requires`: each says its answer and the whole table that it leaves, for every content of both tables, by a definition of `cells`.
+use cells::Cascade;
+use cells::Step;
 use plan::Plan;
-use state::Cascade;
-use state::Step;
 ghost use mathlib.Core.Path.{_≡_};
 ghost use Prim.Native.Nat.{_≤_, _<_};
 ghost use lib.ListN.{set};
 ghost use Rattle.rules.specs.Call.{ask, off, reserve, until, normal, high};
 ghost use Rattle.rules.specs.Core.{standing};
-ghost use Rattle.state.specs.Layout.{classOf, latestCell, requestCode};
-ghost use Rattle.state.specs.Calls.{EventPromise, StepPromise};
+ghost use Rattle.cells.specs.Layout.{classOf, latestCell, requestCode};
+ghost use Rattle.cells.specs.Calls.{EventPromise, StepPromise};
 
+mod handling;
 mod instants;
 mod rows;
-mod turn;
 
 // The cell of a request.
 fn request_code(high: bool, b: u64) -> u32
@@ -35,7 +35,7 @@ fn ask(p: &Plan, s: &mut Cascade, high: bool, t: u64, k: u64, b: u64) -> u32
         return row;
     }
     frames::advance(p, s, t);
-    table::put_request(p, s, k as u32, request_code(high, b));
+    requests::put_request(p, s, k as u32, request_code(high, b));
     0
 }
 
@@ -62,7 +62,7 @@ pub fn off(p: &Plan, s: &mut Cascade, t: u64, k: u64) -> u32
         return row;
     }
     frames::advance(p, s, t);
-    table::put_request(p, s, k as u32, 0);
+    requests::put_request(p, s, k as u32, 0);
     0
 }
 
@@ -106,5 +106,5 @@ pub fn step(p: &Plan, s: &mut Cascade, t: u64) -> Step
     if rows::out_of_time(s, t) {
         return Step::Refused(11);
     }
-    turn::step_due(p, s, instants::due(p, s), t)
+    handling::step_due(p, s, instants::due(p, s), t)
 }

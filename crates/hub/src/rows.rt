@@ -1,7 +1,7 @@
 // "Where each no is said": 0, or the number of the first row that applies.
 use crate::instants;
+use cells::Cascade;
 use plan::Plan;
-use state::Cascade;
 ghost use mathlib.Core.Path.{_≡_};
 ghost use mathlib.Core.Bool.{not, _||_};
 ghost use Prim.Native.Nat.{_+_, _*_, _/_, _%_, _≤_, _<_};
@@ -12,10 +12,10 @@ ghost use Rattle.rules.specs.Plan.{longest-packet};
 ghost use Rattle.rules.specs.Drawn.{Within};
 ghost use Rattle.rules.specs.Call.{ask, off, reserve, until};
 ghost use Rattle.rules.specs.Rows.{last-time, row16, row17};
-ghost use Rattle.state.specs.Layout.{timeAt, clock-cell, classOf, forceCell, latestCell, shareOf, shareCode};
-ghost use Rattle.state.specs.Decode.{planIn, coreOf};
-ghost use Rattle.state.specs.Frames.{newFrame};
-ghost use Rattle.state.specs.Calls.{rowBy};
+ghost use Rattle.cells.specs.Layout.{timeAt, clock-cell, classOf, forceCell, latestCell, shareOf, shareCode};
+ghost use Rattle.cells.specs.Decode.{planIn, coreOf};
+ghost use Rattle.cells.specs.Frames.{newFrame};
+ghost use Rattle.cells.specs.Calls.{rowBy};
 
 // 11: t above 10^15, or before the clock.
 pub(crate) fn out_of_time(s: &Cascade, t: u64) -> bool
@@ -24,7 +24,7 @@ pub(crate) fn out_of_time(s: &Cascade, t: u64) -> bool
     if 1000000000000000 < t {
         return true;
     }
-    t < table::clock(s)
+    t < requests::clock(s)
 }
 
 // 11, then 12: an instant strictly before t is due.

@@ -10,10 +10,10 @@ use Rattle.writer.specs.declared.Put.{Put}
 use Rattle.writer.specs.declared.Put.the-variants.{Behind, Short}
 use Rattle.writer.specs.Write.{putNumber, putAnswer, putRow}
 use Rattle.writer.proofs.Writes.{put-told}
-use Rattle.state.specs.declared.Step.{Step}
-use Rattle.state.specs.Calls.{stepBy, stepAnswer, performBy}
-use Rattle.calls.specs.Table.{Six, sixOf, putSix}
-use Rattle.calls.proofs.Numbers.{stepSix, step-six}
+use Rattle.cells.specs.declared.Step.{Step}
+use Rattle.cells.specs.Calls.{stepBy, stepAnswer, performBy}
+use Rattle.call_list.specs.Table.{Six, sixOf, putSix}
+use Rattle.call_list.proofs.Numbers.{stepSix, step-six}
 use Rattle.lembuya.specs.Exports.{readNumber, putTold, putEnd}
 
 -- ---- a plan

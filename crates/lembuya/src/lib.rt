@@ -1,21 +1,21 @@
 // The hub for programs in C and Rust: include/lembuya.h has a comment for each function. No exported function has a `requires`: each says its answer and
 // all that it leaves, for every content of the tables and every length of the texts, lists and buffers.
+use cells::Cascade;
+use cells::Step;
 use plan::Answer;
 use plan::Plan;
-use state::Cascade;
-use state::Step;
 use writer::Put;
 ghost use mathlib.Core.Path.{_≡_};
 ghost use lib.ListN.{set};
 ghost use Rattle.rules.specs.Call.{ask, off, reserve, until, normal, high};
 ghost use Rattle.writer.specs.Write.{putAnswer, putBuffer, putRow};
 ghost use Rattle.plan.specs.Reading.{reading, leaves};
-ghost use Rattle.state.specs.Fresh.{freshCells};
-ghost use Rattle.state.specs.Calls.{EventPromise, stepBy, stepAnswer};
-ghost use Rattle.calls.specs.Table.{sixOf, putSix};
-ghost use Rattle.calls.specs.Promise.{ListPromise};
-ghost use Rattle.logbook.specs.Log.{logBytes};
-ghost use Rattle.logbook.specs.Cells.{planLeft, cellsLeft};
+ghost use Rattle.cells.specs.Fresh.{freshCells};
+ghost use Rattle.cells.specs.Calls.{EventPromise, stepBy, stepAnswer};
+ghost use Rattle.call_list.specs.Table.{sixOf, putSix};
+ghost use Rattle.call_list.specs.Promise.{ListPromise};
+ghost use Rattle.log_spec.specs.Log.{logBytes};
+ghost use Rattle.log_spec.specs.Cells.{planLeft, cellsLeft};
 ghost use Rattle.lembuya.specs.Exports.{readNumber, putTold, putEnd};
 
 // What a plan's reader tells: nodes, hubs, where the events start and on which line.
@@ -55,7 +55,7 @@ pub extern "C" fn lembuya_read(text: &[u8], plan: &mut Plan, told: &mut [u64; 4]
 pub extern "C" fn lembuya_fresh(s: &mut Cascade)
     ensures { λ _. ⌜ now (s .exit) ≡ freshCells ⌝ }
 {
-    table::fresh(s);
+    requests::fresh(s);
 }
 
 #[no_mangle]
@@ -139,7 +139,7 @@ pub extern "C" fn lembuya_step(p: &Plan, s: &mut Cascade, t: u64, answer: &mut [
 pub extern "C" fn lembuya_list(p: &Plan, s: &mut Cascade, calls: &[u64], answers: &mut [u64]) -> u32
     ensures { λ r. ⌜ ListPromise (now (p .entry)) (now (s .entry)) (now (calls .entry)) (now (answers .entry)) r (now (s .exit)) (now (answers .exit)) ⌝ }
 {
-    calls::list(p, s, calls, answers)
+    call_list::list(p, s, calls, answers)
 }
 
 #[no_mangle]
@@ -156,7 +156,7 @@ pub extern "C" fn lembuya_run(
     ensures { λ r. ⌜ now (plan .exit) ≡ planLeft (now (text .entry)) (now (plan .entry)) (now (log .entry)) ⌝ }
     ensures { λ r. ⌜ now (s .exit) ≡ cellsLeft (now (text .entry)) (now (s .entry)) (now (log .entry)) ⌝ }
 {
-    match session::run(text, plan, s, log) {
+    match text_run::run(text, plan, s, log) {
         Put::Behind(z) => {
             end[0] = z as u64;
             0

@@ -9,8 +9,8 @@ ghost use Rattle.plan.specs.Tables.{putFigures};
 ghost use Rattle.plan.specs.Reading.{reading, leaves};
 ghost use Rattle.plan.specs.PlanReader.{inRange, figureAt, rootAt, hubAt, interruptAt, overheadAt};
 
-mod cells;
 mod readers;
+mod stores;
 
 // What a line of a plan is, other than a figure's.
 pub enum Kind {

@@ -4,7 +4,7 @@ use crate::Kind;
 use crate::Part;
 use crate::Place;
 use crate::Plan;
-use crate::cells;
+use crate::stores;
 use text::Next;
 ghost use mathlib.Core.Path.{_≡_};
 ghost use Prim.Native.Nat.{_≤_};
@@ -44,7 +44,7 @@ fn node_port(s: &mut Plan, line: usize, x: Place, g: u32, q: u32) -> Part
     if 256 <= nodes {
         return Part::Stopped { line, number: 3 };
     }
-    cells::put_node(s, g, q + 1, nodes + 1);
+    stores::put_node(s, g, q + 1, nodes + 1);
     Part::Read(Place {
         at: x.at,
         number: x.number,
@@ -62,7 +62,7 @@ fn empty_port(s: &mut Plan, line: usize, x: Place, g: u32, q: u32) -> Part
     if 32 <= q {
         return Part::Stopped { line, number: 3 };
     }
-    cells::put_empty(s, g, q + 1);
+    stores::put_empty(s, g, q + 1);
     Part::Read(x)
 }
 
@@ -75,7 +75,7 @@ fn close_hub(s: &mut Plan, line: usize, x: Place, g: u32, q: u32) -> Part
     if q == 0 {
         return Part::Stopped { line, number: 3 };
     }
-    cells::put_ports(s, g, q);
+    stores::put_ports(s, g, q);
     Part::Read(x)
 }
 
@@ -110,7 +110,7 @@ fn port_reader(
             if levels == 0 {
                 return Part::Stopped { line, number: 3 };
             }
-            cells::put_hub(s, g, q + 1, hubs + 1, 6 - levels);
+            stores::put_hub(s, g, q + 1, hubs + 1, 6 - levels);
             let y = Place {
                 at: x.at,
                 number: x.number,

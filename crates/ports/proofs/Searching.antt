@@ -1,4 +1,4 @@
--- The search on a turned mask: the port behind its trailing zeros, turned back, is the lowest at or after the pointer, unless it has gone round.
+-- The search on a rotated mask: the port behind its trailing zeros, rotated back, is the lowest at or after the pointer, unless it has gone round.
 use mathlib.Core.Path.{_≡_, sym, ap, ap₂, _∙_}
 use mathlib.Core.Bool.{Bool, true, false, _||_, or-self, or-false}
 use Prim.Native.Nat.{ℕ, zero, suc, _+_, _-_, _*_, _/_, _%_, _^_, _≤_, _<_, max}
@@ -41,15 +41,15 @@ behind-zeros (suc k) m h = go (m % 2) (mod-lt m (zero-lt-suc 1)) (shows-first m)
     go (suc zero) l first rest h = first
     go (suc (suc r)) l first rest h = absurd (omega arith)
 
--- ---- turning, at any width k
+-- ---- rotating, at any width k
 
 -- n shows the ports of m above b, each b lower; of those that have gone round it says nothing
-abbrev pub Turned : ℕ → ℕ → ℕ → ℕ → Type 0
-Turned k b m n = (i : ℕ) → b + i < k → shows n (suc i) ≡ shows m (suc (b + i))
+abbrev pub Rotated : ℕ → ℕ → ℕ → ℕ → Type 0
+Rotated k b m n = (i : ℕ) → b + i < k → shows n (suc i) ≡ shows m (suc (b + i))
 
--- two shifts turn a mask; where b is 0 both are by 0
-pub turned : (k b m : ℕ) → b < k → Turned k b m (bitOr (m / 2 ^ b) (m * 2 ^ ((k - b) % k) % 2 ^ k))
-turned k b m l i r =
+-- two shifts rotate a mask; where b is 0 both are by 0
+pub rotated : (k b m : ℕ) → b < k → Rotated k b m (bitOr (m / 2 ^ b) (m * 2 ^ ((k - b) % k) % 2 ^ k))
+rotated k b m l i r =
     shows-or (m / 2 ^ b) (m * 2 ^ ((k - b) % k) % 2 ^ k) (suc i)
     ∙ ap₂ (λ (x y : Bool). x || y) (shows-shr m b i) (shows-cut k (m * 2 ^ ((k - b) % k)) (suc i) (omega arith))
     ∙ go b l r
@@ -63,23 +63,23 @@ turned k b m l i r =
         ap (λ (x : ℕ). shows (m * 2 ^ x) (suc i)) (mod-eq-of-lt (omega arith)) ∙ shl-shows-none m (k - suc c) (suc i) (omega arith) in
         ap (λ (x : Bool). shows m (suc (suc c + i)) || x) none ∙ or-false (shows m (suc (suc c + i)))
 
--- a mask that is not turned
-pub unturned : (k m : ℕ) → Turned k 0 m m
-unturned k m i r = ap (λ (x : ℕ). shows m (suc x)) (sym (zero-add i))
+-- a mask that is not rotated
+pub unrotated : (k m : ℕ) → Rotated k 0 m m
+unrotated k m i r = ap (λ (x : ℕ). shows m (suc x)) (sym (zero-add i))
 
 -- ---- the answer
 
 -- a pointer before the first port counts as one at it
-module _ (m n pointer first : ℕ) (e : first ≡ max pointer 1) (t : Turned ports (first - 1) m n) where
-  -- port q of the mask is place q - first + 1 of the turned one
+module _ (m n pointer first : ℕ) (e : first ≡ max pointer 1) (t : Rotated ports (first - 1) m n) where
+  -- port q of the mask is place q - first + 1 of the rotated one
   place : (q : ℕ) (x : Bool) → first ≤ q → q ≤ ports → shows n (suc (q - first)) ≡ x → shows m q ≡ x
   place q x a u w = ap (shows m) (omega arith) ∙ sym (t (q - first) (omega arith)) ∙ w
 
   none-before : (q : ℕ) → first ≤ q → q ≤ ports → q < trailingZeros ports n + first → shows m q ≡ false
   none-before q a u h = place q false a u (zeros-none ports n (q - first) (omega arith))
 
-  pub turned-back : trailingZeros ports n + first ≤ ports → lowestFrom (shows m) pointer ≡ Port (trailingZeros ports n + first)
-  turned-back h =
+  pub rotated-back : trailingZeros ports n + first ≤ ports → lowestFrom (shows m) pointer ≡ Port (trailingZeros ports n + first)
+  rotated-back h =
       let z = trailingZeros ports n in
       let at : z + first - first ≡ z = omega arith in
       right-lowest (shows m) pointer (Port (z + first))

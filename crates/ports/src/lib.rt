@@ -63,25 +63,25 @@ pub fn at_or_after(mask: u32, pointer: u32) -> u32
     (mask >> below) << below
 }
 
-// The lowest-numbered port shown at or after `pointer`. The ports are turned so that the pointer's port is lowest, and the answer is turned back.
+// The lowest-numbered port shown at or after `pointer`. The ports are rotated so that the pointer's port is lowest, and the answer is rotated back.
 pub fn lowest(mask: u32, pointer: u32) -> Found
     ensures { λ r. ⌜ r ≡ lowestFrom (shows mask) pointer ⌝ }
 {
-    // one past the last port, or beyond, nothing is turned
+    // one past the last port, or beyond, nothing is rotated
     if 33 <= pointer {
         return Found::Nothing;
     }
     if 1 <= pointer {
-        let turn = pointer - 1;
-        let turned = (mask >> turn) | (mask << ((32 - turn) % 32));
-        let zeros = u32::trailing_zeros(turned);
+        let rotation = pointer - 1;
+        let rotated = (mask >> rotation) | (mask << ((32 - rotation) % 32));
+        let zeros = u32::trailing_zeros(rotated);
         // the ports below the pointer have gone round, behind the last one
         if zeros <= 32 - pointer {
             return Found::Port(zeros + pointer);
         }
         return Found::Nothing;
     }
-    // before the first port nothing has to be turned
+    // before the first port nothing has to be rotated
     let zeros = u32::trailing_zeros(mask);
     if zeros < 32 {
         Found::Port(zeros + 1)

@@ -50,10 +50,10 @@ abbrev pub frameOf : Plan → ℕ → ℕ
 frameOf p t = t / p .frame
 
 -- a standing high request whose node has n = 0, or which is longer than the b in force, becomes a normal request
-abbrev pub turned : Share → Request → Request
-turned r none = none
-turned r (standing normal b) = standing normal b
-turned r (standing high b) = if eqb (r .packets) 0 || ltb (r .bits) b then standing normal b else standing high b
+abbrev pub reclassed : Share → Request → Request
+reclassed r none = none
+reclassed r (standing normal b) = standing normal b
+reclassed r (standing high b) = if eqb (r .packets) 0 || ltb (r .bits) b then standing normal b else standing high b
 
 -- the start of a frame, as the clock comes to t: reservations come into force together, and high grants count from 0
 abbrev pub frameStart : ℕ → Core → Core
@@ -61,7 +61,7 @@ frameStart t s =
     record {
       clock = t;
       line = s .line;
-      request = λ k. turned (s .latest k) (s .request k);
+      request = λ k. reclassed (s .latest k) (s .request k);
       force = s .latest;
       latest = s .latest;
       granted = λ k. 0;

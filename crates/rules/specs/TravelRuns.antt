@@ -18,7 +18,7 @@ pub record Figures : Type 0 where
   pub told : List Answer
   pub is-run : Bool
   pub moves : ℕ
-  pub turned : ℕ
+  pub returned : ℕ
   pub by-answers : ℕ
   pub most : ℕ
 
@@ -52,7 +52,7 @@ module _ (x : Worked) where
         told = answers (x .plan) (control (x .plan)) (x .calls);
         is-run = starts upTo && unbroken (x .class) since;
         moves = travel since;
-        turned = returns (x .plan) upTo since;
+        returned = returns (x .plan) upTo since;
         by-answers = rounds upTo since;
         most = farthest (x .plan) (returns (x .plan) upTo since);
       }
@@ -93,7 +93,7 @@ one-round =
                 ∷ grant 6048 5 normal 7560 1 ∷ [];
             is-run = true;
             moves = 4;
-            turned = 0;
+            returned = 0;
             by-answers = 0;
             most = 4;
           };
@@ -121,7 +121,7 @@ two-rounds =
                 ∷ grant 13608 5 normal 15120 1 ∷ [];
             is-run = true;
             moves = 8;
-            turned = 1;
+            returned = 1;
             by-answers = 1;
             most = 8;
           };
@@ -148,7 +148,7 @@ high-rounds =
                 ∷ grant 104536 1 high 106048 0 ∷ grant 106048 2 high 107560 1 ∷ grant 107560 4 high 109072 1 ∷ [];
             is-run = true;
             moves = 4;
-            turned = 1;
+            returned = 1;
             by-answers = 1;
             most = 4;
           };
@@ -167,7 +167,7 @@ once-more =
             told = taken ∷ grant 0 2 normal 1512 1 ∷ taken ∷ grant 1512 2 normal 3024 2 ∷ [];
             is-run = true;
             moves = 2;
-            turned = 1;
+            returned = 1;
             by-answers = 1;
             most = 4;
           };
@@ -190,7 +190,7 @@ with-a-rest =
                 ∷ rest 1512 1 ∷ taken ∷ grant 2000 3 normal 3512 1 ∷ taken ∷ grant 3512 4 normal 5024 1 ∷ [];
             is-run = false;
             moves = 3;
-            turned = 0;
+            returned = 0;
             by-answers = 0;
             most = 2;
           };
@@ -213,7 +213,7 @@ with-the-other-class =
                 ∷ taken ∷ grant 101512 4 high 103024 1 ∷ taken ∷ grant 103024 3 normal 104536 1 ∷ taken ∷ grant 104536 4 normal 106048 1 ∷ [];
             is-run = false;
             moves = 3;
-            turned = 0;
+            returned = 0;
             by-answers = 1;
             most = 2;
           };

@@ -1,6 +1,6 @@
 -- `cascade::write_log` is safe and ends. What it writes lies within the buffer. Assumes nothing.
-use Rattle.logbook.specs.Log.{logBytes}
-use Rattle.log.proofs.Within.{behind-within, behind-counts}
+use Rattle.log_spec.specs.Log.{logBytes}
+use Rattle.log_lines.proofs.Within.{behind-within, behind-counts}
 use borrow.Author.Needs.{needs}
 use Rattle.cascade.proofs.write_log.Statement.{statement}
 use Rattle.cascade.proofs.write_log.Tie as tie

@@ -2,7 +2,7 @@
 use Prim.Native.Nat.{ℕ, _-_, _<_}
 use mathlib.Core.Path.{ap, _∙_}
 use borrow.Author.Needs.{needs}
-use Rattle.state.specs.Frames.{startNodes}
+use Rattle.cells.specs.Frames.{startNodes}
 use Rattle.frames.proofs.Starting.{starts-none, starts-some}
 use borrow.Fn.Kinds.{In}
 use borrow.Fn.PlainCycle.{Measures, is, falls, and}

@@ -3,7 +3,7 @@ use mathlib.Core.Path.{sym, ap, _∙_}
 use mathlib.Core.Logic.{⊎-elim}
 use Prim.Native.Nat.{ℕ}
 use borrow.Author.Needs.{needs}
-use Rattle.state.specs.Frames.{startNodes}
+use Rattle.cells.specs.Frames.{startNodes}
 use Rattle.frames.proofs.Starting.{comes-with-start, comes-alone}
 use Rattle.frames.proofs.advance.Statement.{statement}
 use Rattle.frames.proofs.advance.Tie as tie

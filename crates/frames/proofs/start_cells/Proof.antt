@@ -1,7 +1,7 @@
 -- `frames::start_cells` meets its contract: three stores.
 use native.Mathlib.Nat.{add-zero}
 use borrow.Author.Needs.{needs}
-use Rattle.state.specs.Frames.{startCells}
+use Rattle.cells.specs.Frames.{startCells}
 use Rattle.frames.proofs.start_cells.Statement.{statement}
 use Rattle.frames.proofs.start_cells.Tie as tie
 
@@ -23,14 +23,14 @@ mul-share c = search needs
 element-copy-out-share : tie.Need-element-copy-out-share
 element-copy-out-share c = search needs
 
-mul-turned : tie.Need-mul-turned
-mul-turned c = search needs
+mul-reclassed : tie.Need-mul-reclassed
+mul-reclassed c = search needs
 
-element-copy-out-turned : tie.Need-element-copy-out-turned
-element-copy-out-turned c = search needs
+element-copy-out-reclassed : tie.Need-element-copy-out-reclassed
+element-copy-out-reclassed c = search needs
 
-turned-requires : tie.Need-turned-requires
-turned-requires c κs = search needs
+reclassed-requires : tie.Need-reclassed-requires
+reclassed-requires c κs = search needs
 
 mul-s : tie.Need-mul-s
 mul-s c = search needs
@@ -58,7 +58,7 @@ element-write-s-3 c = search needs
 
 returns : tie.Need-returns
 unfolding startCells
-returns c = simp (add-zero, c .turned .ensures)
+returns c = simp (add-zero, c .reclassed .ensures)
 
 pub start-cells-spec : {M : Type 1} → statement M
 start-cells-spec =
@@ -70,9 +70,9 @@ start-cells-spec =
     add-share
     mul-share
     element-copy-out-share
-    mul-turned
-    element-copy-out-turned
-    turned-requires
+    mul-reclassed
+    element-copy-out-reclassed
+    reclassed-requires
     mul-s
     element-write-s
     add-s

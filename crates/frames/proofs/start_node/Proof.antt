@@ -1,7 +1,7 @@
 -- `frames::start_node` meets its contract: each way through the test is a law of Starting.
 use mathlib.Core.Path.{ap, _∙_}
 use borrow.Author.Needs.{needs}
-use Rattle.state.specs.Masks.{mendNode}
+use Rattle.cells.specs.Masks.{mendNode}
 use Rattle.frames.proofs.Starting.{starts-low, starts-high}
 use Rattle.frames.proofs.start_node.Statement.{statement}
 use Rattle.frames.proofs.start_node.Tie as tie

@@ -1,8 +1,8 @@
 -- `ask` meets its contract: the clock comes to t, and the request stands.
 use native.Mathlib.Omega.{arith}
 use Rattle.rules.specs.Call.{ask}
-use Rattle.state.specs.Layout.{classOf}
-use Rattle.state.specs.Calls.{changeBy}
+use Rattle.cells.specs.Layout.{classOf}
+use Rattle.cells.specs.Calls.{changeBy}
 use Rattle.hub.proofs.CallLaws.{event-refused, event-taken, ask-asked}
 use borrow.Author.Needs.{needs}
 use Rattle.hub.proofs.ask.Statement.{statement}

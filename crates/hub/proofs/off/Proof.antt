@@ -1,7 +1,7 @@
 -- `off` meets its contract: the clock comes to t, and the request is withdrawn.
 use native.Mathlib.Omega.{arith}
 use Rattle.rules.specs.Call.{off}
-use Rattle.state.specs.Calls.{changeBy}
+use Rattle.cells.specs.Calls.{changeBy}
 use Rattle.hub.proofs.CallLaws.{event-refused, event-taken, off-node}
 use borrow.Author.Needs.{needs}
 use Rattle.hub.proofs.off.Statement.{statement}

@@ -1,7 +1,7 @@
 -- `reserve` meets its contract: the clock comes to t, and the reservation is the latest accepted one.
 use native.Mathlib.Omega.{arith}
 use Rattle.rules.specs.Call.{reserve}
-use Rattle.state.specs.Calls.{changeBy}
+use Rattle.cells.specs.Calls.{changeBy}
 use Rattle.hub.proofs.CallLaws.{event-refused, event-taken, reserve-reserved}
 use borrow.Author.Needs.{needs}
 use Rattle.hub.proofs.reserve.Statement.{statement}

@@ -1,7 +1,7 @@
 -- `step` meets its contract: row 11, then the due instant.
 use mathlib.Core.Path.{_∙_, sym, ap}
 use native.Mathlib.Omega.{arith}
-use Rattle.state.specs.Calls.{Stepped}
+use Rattle.cells.specs.Calls.{Stepped}
 use Rattle.hub.proofs.CallLaws.{in-time, step-refused, step-allowed}
 use borrow.Author.Needs.{needs}
 use Rattle.hub.proofs.step.Statement.{statement}

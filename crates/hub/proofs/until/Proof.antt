@@ -1,6 +1,6 @@
 -- `until` meets its contract: the clock comes to t.
 use Rattle.rules.specs.Call.{until}
-use Rattle.state.specs.Calls.{changeBy}
+use Rattle.cells.specs.Calls.{changeBy}
 use Rattle.hub.proofs.CallLaws.{event-refused, event-taken}
 use borrow.Author.Needs.{needs}
 use Rattle.hub.proofs.until.Statement.{statement}

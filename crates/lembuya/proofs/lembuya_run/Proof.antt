@@ -1,7 +1,7 @@
--- `lembuya_run` meets its contract: what `session::run` leaves, and its answer told by its case.
+-- `lembuya_run` meets its contract: what `text_run::run` leaves, and its answer told by its case.
 use mathlib.Core.Path.{sym, _∙_}
 use native.Mathlib.Omega.{arith}
-use Rattle.logbook.specs.Log.{logBytes}
+use Rattle.log_spec.specs.Log.{logBytes}
 use Rattle.lembuya.proofs.Laws.{behind-number, behind-end, short-number, short-end}
 use borrow.Author.Needs.{needs}
 use Rattle.lembuya.proofs.lembuya_run.Statement.{statement}

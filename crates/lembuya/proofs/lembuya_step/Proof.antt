@@ -1,6 +1,6 @@
 -- `lembuya_step` meets its contract: the numbers of each case of what `hub::step` answers.
 use mathlib.Core.Path.{sym, _∙_}
-use Rattle.calls.proofs.Numbers.{stepSix}
+use Rattle.call_list.proofs.Numbers.{stepSix}
 use Rattle.lembuya.proofs.Laws.{stepped}
 use borrow.Author.Needs.{needs}
 use Rattle.lembuya.proofs.lembuya_step.Statement.{statement}

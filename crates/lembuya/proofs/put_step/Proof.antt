@@ -1,6 +1,6 @@
 -- `put_step` meets its contract: the six stores are the definition's.
 use mathlib.Core.Path.{refl}
-use Rattle.calls.specs.Table.{putSix}
+use Rattle.call_list.specs.Table.{putSix}
 use borrow.Author.Needs.{needs}
 use Rattle.lembuya.proofs.put_step.Statement.{statement}
 use Rattle.lembuya.proofs.put_step.Tie as tie

@@ -6,7 +6,7 @@ use borrow.Author.Needs.{needs}
 use lib.Bits.{bitOr}
 use Rattle.ports.specs.Mask.{shows}
 use Rattle.ports.specs.declared.Found.the-variants.{Port}
-use Rattle.ports.proofs.Searching.{Turned, turned, unturned, turned-back, gone-round, past-the-last}
+use Rattle.ports.proofs.Searching.{Rotated, rotated, unrotated, rotated-back, gone-round, past-the-last}
 use Rattle.ports.proofs.lowest.Statement.{statement}
 use Rattle.ports.proofs.lowest.Tie as tie
 
@@ -15,25 +15,25 @@ use Rattle.ports.proofs.lowest.Tie as tie
 returns : tie.Need-returns
 returns c = sym (past-the-last (shows (c .before .args .mask)) (c .before .args .pointer) (omega arith))
 
--- ---- at a port: the mask is turned
+-- ---- at a port: the mask is rotated
 
-abbrev turned-mask : tie.Then2 → ℕ
-turned-mask c =
+abbrev rotated-mask : tie.Then2 → ℕ
+rotated-mask c =
     let m = c .before .before .args .mask in
     let b = c .before .before .args .pointer - 1 in
     bitOr (m / 2 ^ b) (m * 2 ^ ((32 - b) % 32) % 2 ^ 32)
 
-is-turned : (c : tie.Then2) → Turned 32 (c .before .before .args .pointer - 1) (c .before .before .args .mask) (turned-mask c)
-is-turned c = turned 32 (c .before .before .args .pointer - 1) (c .before .before .args .mask) (omega arith)
+is-rotated : (c : tie.Then2) → Rotated 32 (c .before .before .args .pointer - 1) (c .before .before .args .mask) (rotated-mask c)
+is-rotated c = rotated 32 (c .before .before .args .pointer - 1) (c .before .before .args .mask) (omega arith)
 
-shr-turned : tie.Need-shr-turned
-shr-turned c = search needs
+shr-rotated : tie.Need-shr-rotated
+shr-rotated c = search needs
 
-sub-turned : tie.Need-sub-turned
-sub-turned c = search needs
+sub-rotated : tie.Need-sub-rotated
+sub-rotated c = search needs
 
-shl-turned : tie.Need-shl-turned
-shl-turned c = search needs
+shl-rotated : tie.Need-shl-rotated
+shl-rotated c = search needs
 
 sub-if3 : tie.Need-sub-if3
 sub-if3 c = search needs
@@ -45,13 +45,13 @@ returns-2 : tie.Need-returns-2
 returns-2 c =
     let s = c .before in
     let a = s .before .before .args in
-    ap Port (omega arith) ∙ sym (turned-back (a .mask) (turned-mask s) (a .pointer) (a .pointer) (omega arith) (is-turned s) (omega arith))
+    ap Port (omega arith) ∙ sym (rotated-back (a .mask) (rotated-mask s) (a .pointer) (a .pointer) (omega arith) (is-rotated s) (omega arith))
 
 returns-3 : tie.Need-returns-3
 returns-3 c =
     let s = c .before in
     let a = s .before .before .args in
-    sym (gone-round (a .mask) (turned-mask s) (a .pointer) (a .pointer) (omega arith) (is-turned s) (omega arith))
+    sym (gone-round (a .mask) (rotated-mask s) (a .pointer) (a .pointer) (omega arith) (is-rotated s) (omega arith))
 
 -- ---- before the first port: it is not
 
@@ -61,13 +61,13 @@ add-t15 c = search needs
 returns-4 : tie.Need-returns-4
 returns-4 c =
     let a = c .before .before .before .args in
-    ap Port (omega arith) ∙ sym (turned-back (a .mask) (a .mask) (a .pointer) 1 (omega arith) (unturned 32 (a .mask)) (omega arith))
+    ap Port (omega arith) ∙ sym (rotated-back (a .mask) (a .mask) (a .pointer) 1 (omega arith) (unrotated 32 (a .mask)) (omega arith))
 
 returns-5 : tie.Need-returns-5
 returns-5 c =
     let a = c .before .before .before .args in
-    sym (gone-round (a .mask) (a .mask) (a .pointer) 1 (omega arith) (unturned 32 (a .mask)) (omega arith))
+    sym (gone-round (a .mask) (a .mask) (a .pointer) 1 (omega arith) (unrotated 32 (a .mask)) (omega arith))
 
 pub lowest-spec : {M : Type 1} → statement M
 lowest-spec =
-    tie.close (tie.spec returns shr-turned sub-turned shl-turned sub-if3 add-t13 returns-2 returns-3 add-t15 returns-4 returns-5)
+    tie.close (tie.spec returns shr-rotated sub-rotated shl-rotated sub-if3 add-t13 returns-2 returns-3 add-t15 returns-4 returns-5)

@@ -11,7 +11,7 @@ use Rattle.rules.specs.Choice.{put}
 use Rattle.rules.specs.Plan.{Plan}
 use Rattle.rules.specs.Drawn.{Within}
 use Rattle.rules.specs.Call.{high, Call, taken}
-use Rattle.rules.specs.Core.{Core, Request, none, standing, Share, frameOf, turned, countsIn}
+use Rattle.rules.specs.Core.{Core, Request, none, standing, Share, frameOf, reclassed, countsIn}
 use Rattle.rules.specs.Machine.{granting}
 use Rattle.rules.specs.Flat.{behind}
 use Rattle.rules.specs.Rows.{change}
@@ -30,7 +30,7 @@ use Rattle.rules.proofs.Demand3.Fair.{cost, reach, Fair, more-other, Mo
 use Rattle.rules.proofs.Demand3.LineWhileWaiting.{Held, until-end, held-on, held-due}
 
 -- a frame's start leaves a high request that it keeps
-kept-high : (r : Share) (b : ℕ) → Keeps r b → turned r (standing high b) ≡ standing high b
+kept-high : (r : Share) (b : ℕ) → Keeps r b → reclassed r (standing high b) ≡ standing high b
 kept-high r b h = go (start-of r b)
   where
     go : {q : Request} → Start r b q → q ≡ standing high b

@@ -5,11 +5,11 @@ use mathlib.Core.Bool.{false}
 use native.Mathlib.Omega.{arith}
 use borrow.Author.Tests.{ltb-false}
 use Rattle.rules.specs.Plan.{Plan, longest}
-use Rattle.rules.specs.Core.{Core, Request, Share, busy, frameOf, frameStart, sameFrame, turned, advance, Due, at, due, before}
+use Rattle.rules.specs.Core.{Core, Request, Share, busy, frameOf, frameStart, sameFrame, reclassed, advance, Due, at, due, before}
 use Rattle.rules.specs.Drawn.{Figures}
 use Rattle.rules.proofs.Laws.Frames.{ends-later}
 use Rattle.rules.proofs.Core.Instants.{Instant, line-ends, one-counts, one-held, no-instant, instant, Advanced, across, inside, advanced}
-use Rattle.rules.proofs.Core.Requests.{turned-high, turned-standing}
+use Rattle.rules.proofs.Core.Requests.{reclassed-high, reclassed-standing}
 use Rattle.rules.proofs.Core.Sound.{Sound}
 use Rattle.rules.proofs.Core.SoundChanges.{Proper, sound-of, proper}
 use Rattle.rules.proofs.Laws.Clash.{clash}
@@ -20,13 +20,13 @@ module _ (p : Plan) (t : ℕ) (s : Core) (ok : Sound p s) (late : s .clock ≤ t
   in-reach e l = omega (arith, ok .end-soon e l)
 
   -- a request that the frame's start leaves high is one that the new share allows
-  turned-proper : (new old : Share) (k : ℕ) (r : Request) → Proper p old k r → Proper p new k (turned new r)
-  turned-proper new old k r was =
+  reclassed-proper : (new old : Share) (k : ℕ) (r : Request) → Proper p old k r → Proper p new k (reclassed new r)
+  reclassed-proper new old k r was =
       record {
-        allowed = λ b e. turned-high new r b e .1;
-        node = λ b c e. (let h = turned-standing new r c b e in was .node b (h .0) (h .1));
-        short = λ b c e. (let h = turned-standing new r c b e in was .short b (h .0) (h .1));
-        long = λ b c e. (let h = turned-standing new r c b e in was .long b (h .0) (h .1));
+        allowed = λ b e. reclassed-high new r b e .1;
+        node = λ b c e. (let h = reclassed-standing new r c b e in was .node b (h .0) (h .1));
+        short = λ b c e. (let h = reclassed-standing new r c b e in was .short b (h .0) (h .1));
+        long = λ b c e. (let h = reclassed-standing new r c b e in was .long b (h .0) (h .1));
       }
 
   pub advance-sound : Sound p (advance p t s)
@@ -36,7 +36,7 @@ module _ (p : Plan) (t : ℕ) (s : Core) (ok : Sound p s) (late : s .clock ≤ t
       go (inside l) = sound-of p (sameFrame t s) (ok .latest-fits) (ok .force-fits) (ok .spent) (proper p s ok) (record { late = busy-to; soon = in-reach })
       go (across l) =
           sound-of p (frameStart t s) (ok .latest-fits) (ok .latest-fits) (λ k. omega arith)
-          (λ k. turned-proper (s .latest k) (s .force k) k (s .request k) (proper p s ok k)) (record { late = busy-to; soon = in-reach })
+          (λ k. reclassed-proper (s .latest k) (s .force k) k (s .request k) (proper p s ok k)) (record { late = busy-to; soon = in-reach })
 
 -- what the advance leaves as it was, whether or not it crosses a frame's start
 module _ (p : Plan) (t : ℕ) (s : Core) where

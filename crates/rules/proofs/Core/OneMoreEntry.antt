@@ -23,9 +23,9 @@ use Rattle.rules.proofs.Laws.Frames.{starts, starts-later}
 use Rattle.rules.proofs.Core.WordsAndCore.{Tells, neither, plain, kept, Reads, tells-on}
 
 -- k = j, asked both ways round
-turned-round : (j k : ℕ) {b : Bool} → eqb j k ≡ b → eqb k j ≡ b
-turned-round j k {b = true} e = eq-eqb k j (sym (eqb-true j k e))
-turned-round j k {b = false} e = ne-eqb k j (λ q. eqb-false j k e (sym q))
+other-way-round : (j k : ℕ) {b : Bool} → eqb j k ≡ b → eqb k j ≡ b
+other-way-round j k {b = true} e = eq-eqb k j (sym (eqb-true j k e))
+other-way-round j k {b = false} e = ne-eqb k j (λ q. eqb-false j k e (sym q))
 
 -- an entry reserves nothing in frames that start by its time
 pub reserves-later : (start k : ℕ) (call : Call) (answer : Answer) (r : Share) → start ≤ time call → reservedBy start k call answer r ≡ r
@@ -92,8 +92,8 @@ module _ (p : Plan) (t d k end m j f : ℕ) where
   grant-counted high ends g h l = go (which (eqb j k))
     where
       go : Which (eqb j k) → length (if eqb k j && eqb (frameOf p d) f then end ∷ ends else ends) ≡ (if eqb j k then g k + 1 else g j)
-      go (yes′ e) = rw (turned-round j k e, e, eq-eqb (frameOf p d) f h) (ap suc (l ∙ ap g (eqb-true j k e)) ∙ sym (add-one (g k)))
-      go (no′ e) = rw (turned-round j k e, e) l
+      go (yes′ e) = rw (other-way-round j k e, e, eq-eqb (frameOf p d) f h) (ap suc (l ∙ ap g (eqb-true j k e)) ∙ sym (add-one (g k)))
+      go (no′ e) = rw (other-way-round j k e, e) l
 
 module _ (p : Plan) (past : List Entry) where
   -- an entry that changes no word
@@ -131,8 +131,8 @@ module _ (p : Plan) (past : List Entry) where
     put-tells k a q new j = go (which (eqb j k))
       where
         go : Which (eqb j k) → Tells p j on (frameOf p (s .clock)) (if eqb k j then a else requestAt j past) (if eqb j k then q else s .request j)
-        go (yes′ e) = rw (turned-round j k e, e) (subst (λ (i : ℕ). Tells p i on (frameOf p (s .clock)) a q) (sym (eqb-true j k e)) new)
-        go (no′ e) = rw (turned-round j k e, e) (tells-on p j (same j) (was .request j))
+        go (yes′ e) = rw (other-way-round j k e, e) (subst (λ (i : ℕ). Tells p i on (frameOf p (s .clock)) a q) (sym (eqb-true j k e)) new)
+        go (no′ e) = rw (other-way-round j k e, e) (tells-on p j (same j) (was .request j))
 
   module _ (s : Core) (was : Reads p past s) where
     pub ask-reads : (c : Class) (t k b : ℕ) → s .clock ≡ t → (standing c b ≡ standing high b → 1 ≤ s .force k .packets)
@@ -192,8 +192,8 @@ module _ (p : Plan) (past : List Entry) where
             ≡ (if eqb j k then record { packets = n; bits = b } else s .latest j)
         later j f l (yes′ e) =
             let m : t < f * p .frame = omega (arith, starts-later p fig f (s .clock) l) in
-            rw (turned-round j k e, e, lt-ltb t (f * p .frame) m)
-        later j f l (no′ e) = rw (turned-round j k e, e) (was .latest j f l)
+            rw (other-way-round j k e, e, lt-ltb t (f * p .frame) m)
+        later j f l (no′ e) = rw (other-way-round j k e, e) (was .latest j f l)
 
     -- a grant: the request is removed, and a high one is one more in the clock's frame
     pub grant-reads : (t d k end m : ℕ) (c : Class) → s .clock ≡ d

@@ -7,7 +7,7 @@ use lib.Dec.{ltb, eqb}
 use borrow.Author.Tests.{ltb-true, ltb-false, eqb-true, eqb-false}
 use Rattle.rules.specs.Choice.{if_then_else_, put}
 use Rattle.rules.specs.Call.{Class, normal, high}
-use Rattle.rules.specs.Core.{Core, Request, none, standing, Share, turned, isClass, shareLeft, countsIn}
+use Rattle.rules.specs.Core.{Core, Request, none, standing, Share, reclassed, isClass, shareLeft, countsIn}
 use Rattle.rules.specs.Words.{Keeps}
 use Rattle.rules.proofs.Laws.Passes.{Which, which, yes′, no′, true-false, and-both}
 use Rattle.rules.proofs.Laws.Clash.{clash}
@@ -24,7 +24,7 @@ pub data Start (r : Share) (b : ℕ) : Request → Type 0 where
   stays-high : Keeps r b → Start r b (standing high b)
   turns-normal : (Keeps r b → ⊥) → Start r b (standing normal b)
 
-pub start-of : (r : Share) (b : ℕ) → Start r b (turned r (standing high b))
+pub start-of : (r : Share) (b : ℕ) → Start r b (reclassed r (standing high b))
 start-of r b = go (eqb (r .packets) 0) (ltb (r .bits) b) refl refl
   where
     go : (z l : Bool) → eqb (r .packets) 0 ≡ z → ltb (r .bits) b ≡ l → Start r b (if z || l then standing normal b else standing high b)
@@ -34,20 +34,20 @@ start-of r b = go (eqb (r .packets) 0) (ltb (r .bits) b) refl refl
         stays-high (record { some = omega (arith, eqb-false (r .packets) 0 e); fits = ltb-false (r .bits) b f })
 
 -- what is high after the frame's start was so before, and is kept
-pub turned-high : (r : Share) (q : Request) (b : ℕ) → turned r q ≡ standing high b → (q ≡ standing high b) × Keeps r b
-turned-high r none b e = none-standing high b e
-turned-high r (standing normal d) b e = normal-high d b e
-turned-high r (standing high d) b e = go (start-of r d) e
+pub reclassed-high : (r : Share) (q : Request) (b : ℕ) → reclassed r q ≡ standing high b → (q ≡ standing high b) × Keeps r b
+reclassed-high r none b e = none-standing high b e
+reclassed-high r (standing normal d) b e = normal-high d b e
+reclassed-high r (standing high d) b e = go (start-of r d) e
   where
     go : {q : Request} → Start r d q → q ≡ standing high b → (standing high d ≡ standing high b) × Keeps r b
     go (stays-high h) e = (e, (let f : d ≡ b = cc in subst (λ (x : ℕ). Keeps r x) f h))
     go (turns-normal h) e = normal-high d b e
 
 -- what stands after the frame's start stood before, of the same length
-pub turned-standing : (r : Share) (q : Request) (c : Class) (b : ℕ) → turned r q ≡ standing c b → (d : Class) × (q ≡ standing d b)
-turned-standing r none c b e = none-standing c b e
-turned-standing r (standing normal d) c b e = (normal, (let f : d ≡ b = cc in cc))
-turned-standing r (standing high d) c b e = go (start-of r d) e
+pub reclassed-standing : (r : Share) (q : Request) (c : Class) (b : ℕ) → reclassed r q ≡ standing c b → (d : Class) × (q ≡ standing d b)
+reclassed-standing r none c b e = none-standing c b e
+reclassed-standing r (standing normal d) c b e = (normal, (let f : d ≡ b = cc in cc))
+reclassed-standing r (standing high d) c b e = go (start-of r d) e
   where
     go : {q : Request} → Start r d q → q ≡ standing c b → (x : Class) × (standing high d ≡ standing x b)
     go (stays-high h) e = (high, (let f : d ≡ b = cc in cc))

@@ -8,7 +8,7 @@ use lib.ListN.{length}
 use borrow.Author.Tests.{ltb-true, ltb-false}
 use Rattle.rules.specs.Plan.{Plan}
 use Rattle.rules.specs.Call.{normal, high}
-use Rattle.rules.specs.Core.{Core, Request, standing, Share, frameOf, turned, advance}
+use Rattle.rules.specs.Core.{Core, Request, standing, Share, frameOf, reclassed, advance}
 use Rattle.rules.specs.Drawn.{Figures}
 use Rattle.rules.specs.Run.{Entry}
 use Rattle.rules.specs.Words.{reserved, Asked, asked, requestAt, Keeps, highGrants}
@@ -45,7 +45,7 @@ module _ (p : Plan) (k : ℕ) where
 
   -- one frame start or several: each finds the latest reservation in force
   pub tells-start : {past : List Entry} {now soon : ℕ} {a : Asked} {q : Request} (r : Share) → now < soon
-      → ((f : ℕ) → now < f → reserved p k f past ≡ r) → Tells p k past now a q → Tells p k past soon a (turned r q)
+      → ((f : ℕ) → now < f → reserved p k f past ≡ r) → Tells p k past now a q → Tells p k past soon a (reclassed r q)
   tells-start r l later neither = neither
   tells-start r l later (plain t b) = plain t b
   tells-start {past} {now} {soon} r l later (kept t b m n ks) = go (start-of r b)

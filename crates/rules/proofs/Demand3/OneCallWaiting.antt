@@ -22,7 +22,7 @@ use Rattle.rules.proofs.Flat.Follows.{Follows}
 use Rattle.rules.proofs.Laws.Frames.{started, not-started, not-ended, next-start}
 use Rattle.rules.proofs.Core.CallCases.{Event, not-due, Course, refusal, event, quietly, granting, resting as rested}
 use Rattle.rules.proofs.Core.Instants.{Instant, line-ends, one-counts, one-held, no-instant, instant, Advanced, across, inside, advanced}
-use Rattle.rules.proofs.Core.Requests.{none-standing, turned-high, counts-stands}
+use Rattle.rules.proofs.Core.Requests.{none-standing, reclassed-high, counts-stands}
 use Rattle.rules.proofs.Flat.Turns.{Pointed, pointed-rest, node-counts, pointed-turn}
 use Rattle.rules.proofs.Core.ClockAdvance.{advance-clock}
 use Rattle.rules.proofs.Core.AlwaysSound.{turn-counts}
@@ -102,13 +102,13 @@ module _ (p : Plan) (fig : Figures p) (M : Machine) (follows : Follows p M) (k f
     moment d late soon (inside l) force counts = absurd (outside d (enters d late soon) l)
     moment d late soon {c} (across l) force counts =
         let stood = counts-stands high c k counts in
-        let was = turned-high (s .latest k) (s .request k) (stood .0) (stood .1) in
+        let was = reclassed-high (s .latest k) (s .request k) (stood .0) (stood .1) in
         let b = ap (λ (x : Share). x .bits) (force k) in
         let n = ap (λ (x : Share). x .packets) (force k) in
         record {
           moment =
               record {
-                fits = λ j b e. (let q = ap (λ (x : Share). x .bits) (force j) in omega (arith, turned-high (s .latest j) (s .request j) b e .1 .fits));
+                fits = λ j b e. (let q = ap (λ (x : Share). x .bits) (force j) in omega (arith, reclassed-high (s .latest j) (s .request j) b e .1 .fits));
                 fair = zero-fair k (π .pointers high);
                 soon = omega arith;
                 counts = counts;

@@ -7,7 +7,7 @@ use native.Mathlib.Omega.{arith}
 use borrow.Author.Tests.{lt-ltb}
 use Rattle.rules.specs.Plan.{Plan}
 use Rattle.rules.specs.Call.{Class, normal, high, Call, step, rest, quiet}
-use Rattle.rules.specs.Core.{Core, Request, standing, Line, resting, busy, frameOf, turned, advance, countsIn, counts, held, Due, never, at, dueAtRest, dueOn, due, before, Sought, nothing, sought}
+use Rattle.rules.specs.Core.{Core, Request, standing, Line, resting, busy, frameOf, reclassed, advance, countsIn, counts, held, Due, never, at, dueAtRest, dueOn, due, before, Sought, nothing, sought}
 use Rattle.rules.specs.Drawn.{Figures}
 use Rattle.rules.specs.Rows.{last-time, rows}
 use Rattle.rules.specs.Machine.{Machine, Hub, Outcome, handled, stepAt, perform}
@@ -32,7 +32,7 @@ counts-in normal s k e = or-left (countsIn normal s k) (countsIn high s k) e
 counts-in high s k e = or-right (countsIn normal s k) (countsIn high s k) e
 
 -- a request that stood high counts after the frame's start: as a high one of a node with n at least 1, or as a normal one
-high-counts : (s r : Core) (k b : ℕ) → r .request k ≡ turned (r .force k) (standing high b) → r .granted k ≡ 0 → counts r k ≡ true
+high-counts : (s r : Core) (k b : ℕ) → r .request k ≡ reclassed (r .force k) (standing high b) → r .granted k ≡ 0 → counts r k ≡ true
 unfolding countsIn
 high-counts s r k b q g = go (start-of (r .force k) b) q
   where
@@ -60,7 +60,7 @@ module _ (p : Plan) (s : Core) where
       go {r} (across l) k =
           let stood = of-class high (s .request (k .number)) (and-both _ _ (k .holds) .0) in
           any-intro (p .nodes) (counts r)
-          (record { number = k .number; within = k .within; holds = high-counts s r (k .number) (stood .0) (ap (turned (s .latest (k .number))) (stood .1)) refl })
+          (record { number = k .number; within = k .within; holds = high-counts s r (k .number) (stood .0) (ap (reclassed (s .latest (k .number))) (stood .1)) refl })
 
   -- the instant due at rest
   due-rest : s .line ≡ resting → due p s ≡ dueAtRest p s

@@ -1,6 +1,6 @@
 -- `due` meets its contract: a busy line is due at its end.
 use borrow.Author.Tests.{eq-eqb, ne-eqb}
-use Rattle.state.specs.Instants.{dueBy}
+use Rattle.cells.specs.Instants.{dueBy}
 use borrow.Author.Needs.{needs}
 use Rattle.hub.proofs.instants.due.Statement.{statement}
 use Rattle.hub.proofs.instants.due.Tie as tie

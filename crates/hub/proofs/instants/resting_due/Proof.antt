@@ -2,7 +2,7 @@
 use mathlib.Core.Path.{sym, _∙_}
 use borrow.Author.Tests.{eq-eqb, ne-eqb}
 use Rattle.plan.specs.Tables.{planOf}
-use Rattle.state.specs.Instants.{restingDue}
+use Rattle.cells.specs.Instants.{restingDue}
 use borrow.Author.Needs.{needs}
 use Rattle.hub.proofs.instants.resting_due.Statement.{statement}
 use Rattle.hub.proofs.instants.resting_due.Tie as tie

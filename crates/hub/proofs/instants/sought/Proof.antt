@@ -1,6 +1,6 @@
 -- `sought` meets its contract: each return by the tests that led there.
 use borrow.Author.Tests.{eq-eqb, ne-eqb}
-use Rattle.state.specs.Instants.{soughtBy}
+use Rattle.cells.specs.Instants.{soughtBy}
 use borrow.Author.Needs.{needs}
 use Rattle.hub.proofs.instants.sought.Statement.{statement}
 use Rattle.hub.proofs.instants.sought.Tie as tie

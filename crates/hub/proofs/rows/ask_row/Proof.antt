@@ -1,7 +1,7 @@
 -- `ask_row` meets its contract: the rows of `off`, then 15 and 16.
 use mathlib.Core.Path.{sym, _∙_}
 use native.Mathlib.Omega.{arith}
-use Rattle.state.specs.Layout.{classOf}
+use Rattle.cells.specs.Layout.{classOf}
 use Rattle.hub.proofs.CallLaws.{ask-stops, ask-goes-on, off-node}
 use borrow.Author.Needs.{needs}
 use Rattle.hub.proofs.rows.ask_row.Statement.{statement}

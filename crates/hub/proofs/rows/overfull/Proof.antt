@@ -1,7 +1,7 @@
 -- `overfull` meets its contract: all loads but the old one, and the new one.
 use mathlib.Core.Path.{_∙_}
 use Rattle.plan.specs.Tables.{planOf}
-use Rattle.state.specs.Decode.{planIn}
+use Rattle.cells.specs.Decode.{planIn}
 use Rattle.hub.proofs.Shares.{row17-cell}
 use borrow.Author.Needs.{needs}
 use Rattle.hub.proofs.rows.overfull.Statement.{statement}

@@ -6,8 +6,8 @@ use borrow.Author.Tests.{lt-ltb, le-ltb}
 use Rattle.rules.specs.Core.{Share}
 use Rattle.rules.specs.Rows.{row17}
 use Rattle.rules.proofs.Core.RowsPassed.{passed15r}
-use Rattle.state.specs.Layout.{half, shareOf}
-use Rattle.state.specs.Decode.{planIn, coreOf}
+use Rattle.cells.specs.Layout.{half, shareOf}
+use Rattle.cells.specs.Decode.{planIn, coreOf}
 use Rattle.hub.proofs.CallLaws.{reserve-stops, reserve-goes-on, off-node, in-range}
 use Rattle.hub.proofs.Shares.{share-coded}
 use borrow.Author.Needs.{needs}

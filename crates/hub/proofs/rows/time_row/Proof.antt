@@ -2,10 +2,10 @@
 use mathlib.Core.Path.{_≡_, sym, ap, _∙_}
 use native.Mathlib.Omega.{arith}
 use Rattle.rules.specs.Core.{before}
-use Rattle.state.specs.declared.Due.{Due}
-use Rattle.state.specs.Decode.{planIn, coreOf}
-use Rattle.state.specs.Instants.{dueIn, dueBy}
-use Rattle.state.specs.Calls.{rowBy, rowsBy}
+use Rattle.cells.specs.declared.Due.{Due}
+use Rattle.cells.specs.Decode.{planIn, coreOf}
+use Rattle.cells.specs.Instants.{dueIn, dueBy}
+use Rattle.cells.specs.Calls.{rowBy, rowsBy}
 use Rattle.hub.proofs.CallLaws.{in-time}
 use borrow.Author.Needs.{needs}
 use Rattle.hub.proofs.rows.time_row.Statement.{statement}

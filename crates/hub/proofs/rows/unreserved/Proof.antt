@@ -3,8 +3,8 @@ use mathlib.Core.Path.{_≡_}
 use Prim.Native.Nat.{_/_}
 use native.Mathlib.Omega.{arith}
 use borrow.Author.Tests.{eq-eqb, ne-eqb}
-use Rattle.state.specs.Layout.{half}
-use Rattle.state.specs.Decode.{planIn}
+use Rattle.cells.specs.Layout.{half}
+use Rattle.cells.specs.Decode.{planIn}
 use Rattle.hub.proofs.Shares.{row16-cell}
 use borrow.Author.Needs.{needs}
 use Rattle.hub.proofs.rows.unreserved.Statement.{statement}

@@ -17,7 +17,7 @@ use Rattle.plan.proofs.readers.+hub_reader+port_reader.Lts-hub_reader a
 use Rattle.plan.proofs.readers.port_reader.Reads as port-reader
 use Rattle.plan.proofs.readers.port_reader.Kinds as port-reader-kinds
 use Rattle.plan.proofs.readers.+hub_reader+port_reader.Lts-port_reader as port-reader-lts
-use Rattle.plan.proofs.cells.put_hub.Reads as put-hub-reads
+use Rattle.plan.proofs.stores.put_hub.Reads as put-hub-reads
 use Rattle.plan.proofs.readers.close_hub.Reads as close-hub-reads
 use Rattle.plan.proofs.readers.empty_port.Reads as empty-port-reads
 use Rattle.plan.proofs.readers.kind_of.Reads as kind-of-reads

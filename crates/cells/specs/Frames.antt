@@ -1,0 +1,35 @@
+-- The start of a frame, and the clock.
+use Prim.Native.Nat.{ℕ, zero, suc}
+use mathlib.Core.Bool.{Bool, true, false}
+use mathlib.Core.List.{List}
+use lib.Dec.{ltb}
+use lib.ListN.{getD, set}
+use Rattle.rules.specs.Choice.{if_then_else_}
+use Rattle.rules.specs.Plan.{Plan}
+use Rattle.rules.specs.Core.{reclassed, frameOf}
+use Rattle.cells.specs.Layout.{clock-cell, timeAt, putTime, requestCell, forceCell, latestCell, grantedCell, requestOf, requestCode, shareOf}
+use Rattle.cells.specs.Decode.{planIn}
+use Rattle.cells.specs.Masks.{mendNode}
+
+-- node k at a frame's start: its latest reservation comes into force, its request may turn normal, and its high grants count from 0
+unfoldable pub startCells : ℕ → List ℕ → List ℕ
+startCells k s =
+    let r = getD s (latestCell k) 0 in
+    set (set (set s (requestCell k) (requestCode (reclassed (shareOf r) (requestOf (getD s (requestCell k) 0))))) (forceCell k) r) (grantedCell k) 0
+
+-- only of a node whose request was high does this change what counts
+unfoldable pub startNode : List ℕ → ℕ → List ℕ → List ℕ
+startNode P k s = if ltb (getD s (requestCell k) 0) 131072 then startCells k s else mendNode P k (startCells k s)
+
+-- nodes n to 1
+unfoldable pub startNodes : List ℕ → ℕ → List ℕ → List ℕ
+startNodes P zero s = s
+startNodes P (suc n) s = startNodes P n (startNode P (suc n) s)
+
+-- whether the clock's frame ends before t
+abbrev pub newFrame : Plan → ℕ → List ℕ → Bool
+newFrame p t s = ltb (frameOf p (timeAt s clock-cell)) (frameOf p t)
+
+-- the clock comes to t
+unfoldable pub advanceBy : List ℕ → ℕ → List ℕ → List ℕ
+advanceBy P t s = putTime clock-cell t (if newFrame (planIn P) t s then startNodes P (planIn P .nodes) s else s)

@@ -1,0 +1,70 @@
+-- "A hub sees of each port only which classes count there": the masks are kept, and a change at a node mends them from its hub up to the root.
+use Prim.Native.Nat.{ℕ, zero, suc, _+_, _-_}
+use mathlib.Core.Bool.{Bool, true, false, not, _&&_}
+use mathlib.Core.List.{List}
+use lib.Dec.{ltb, leb}
+use lib.ListN.{getD, set}
+use Rattle.rules.specs.Choice.{if_then_else_}
+use Rattle.rules.specs.Plan.{most-levels}
+use Rattle.rules.specs.Call.{normal, high}
+use Rattle.rules.specs.Core.{isClass}
+use Rattle.ports.specs.Ports.{putPort, anyPort}
+use Rattle.ports.specs.Mask.{shows, maskOf}
+use Rattle.plan.specs.Tables as plan
+use Rattle.cells.specs.Layout.{standing-cell, maskCell, requestCell, forceCell, grantedCell, ifHub, ifNode, requestOf, shareOf}
+
+-- what a node's cells say of whether its request counts in a class: request, high grants in the frame, and reservation in force
+abbrev pub countsBy : Bool → ℕ → ℕ → ℕ → Bool
+countsBy false x granted force = isClass normal (requestOf x)
+countsBy true x granted force = isClass high (requestOf x) && ltb granted (shareOf force .packets)
+
+abbrev pub countsAt : Bool → ℕ → List ℕ → Bool
+countsAt isHigh k s = countsBy isHigh (getD s (requestCell k) 0) (getD s (grantedCell k) 0) (getD s (forceCell k) 0)
+
+-- the mask with one port's bit put
+abbrev pub maskWith : ℕ → ℕ → Bool → ℕ
+maskWith mask q b = maskOf (putPort (shows mask) q b)
+
+module _ (P : List ℕ) (isHigh : Bool) where
+  -- port q of hub g shows b: its bit is put, and so is the hub's own in its parent, by whether the hub shows anything; up to the root, which has no parent
+  unfoldable pub mend : ℕ → ℕ → ℕ → Bool → List ℕ → List ℕ
+  mend zero g q b s = s
+  mend (suc levels) g q b s =
+      let mask = maskWith (getD s (maskCell isHigh g) 0) q b in
+      ifHub g
+      (mend levels (getD P (plan.hubCell g 1) 0) (getD P (plan.hubCell g 2) 0) (anyPort (shows mask)) (set s (maskCell isHigh g) mask))
+      s
+
+-- both classes' bits of node k, by what its cells say
+unfoldable pub mendNode : List ℕ → ℕ → List ℕ → List ℕ
+mendNode P k s =
+    let g = plan.hubOfNode P k in
+    let q = plan.portOfNode P k in
+    ifNode k (mend P true most-levels g q (countsAt true k s) (mend P false most-levels g q (countsAt false k s) s)) s
+
+-- a request's cell stands for a request
+abbrev pub stands : ℕ → Bool
+stands x = leb 65536 x
+
+-- the number of standing requests where one cell changes from `old` to `new`; it is at most the number of nodes
+abbrev pub standingAfter : ℕ → ℕ → ℕ → ℕ
+standingAfter n old new =
+    if stands old then (if stands new then n else n - 1)
+    else (if stands new then (if ltb n 256 then n + 1 else n) else n)
+
+-- node k's request becomes x
+unfoldable pub putRequest : List ℕ → ℕ → ℕ → List ℕ → List ℕ
+putRequest P k x s =
+    ifNode k
+    (mendNode P k (set (set s standing-cell (standingAfter (getD s standing-cell 0) (getD s (requestCell k) 0) x)) (requestCell k) x))
+    s
+
+-- one high grant more; a count that no reservation allows stays
+abbrev pub grantedMore : Bool → ℕ → ℕ
+grantedMore false n = n
+grantedMore true n = if ltb n 65535 then n + 1 else n
+
+-- node k is granted in a class: its request is removed
+unfoldable pub grantNode : List ℕ → Bool → ℕ → List ℕ → List ℕ
+grantNode P isHigh k s =
+    ifNode k (putRequest P k 0 (set s (grantedCell k) (grantedMore isHigh (getD s (grantedCell k) 0)))) s

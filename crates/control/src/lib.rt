@@ -1,0 +1,278 @@
+// Control, hub by hub: a look finds the port by trailing zeros of the hub's mask, and the walk passes control until a node is found.
+// No public function has a `requires`: each says its answer and the whole table that it leaves, for every content, by a definition of `cells`.
+use cells::Cascade;
+use cells::Look;
+use cells::Turn;
+use plan::Plan;
+use ports::Found;
+ghost use mathlib.Core.Path.{_≡_};
+ghost use Prim.Native.Nat.{_+_, _-_, _≤_, _<_};
+ghost use lib.ListN.{getD, set};
+ghost use Rattle.plan.specs.Tables.{portOf, portCell};
+ghost use Rattle.cells.specs.Layout.{maskCell, pointerCell};
+ghost use Rattle.cells.specs.Turns.{downBy, takeBy, upBy, handUpBy, lookBy, walkBy, climbBy, nearerBy, nearestBy, walked, settled, chooseBy};
+
+// Where hub g's mask of a class stands.
+fn mask_cell(high: bool, g: u32) -> usize
+    requires { ⌜ (1 ≤ g) × (g ≤ 32) ⌝ }
+    ensures { λ r. ⌜ r ≡ maskCell high g ⌝ }
+    ensures { λ r. ⌜ r < 134 ⌝ }
+{
+    8 + (g as usize - 1) * 4 + high as usize
+}
+
+// Where its pointer of the class stands: two cells further.
+fn pointer_cell(high: bool, g: u32) -> usize
+    requires { ⌜ (1 ≤ g) × (g ≤ 32) ⌝ }
+    ensures { λ r. ⌜ r ≡ pointerCell high g ⌝ }
+    ensures { λ r. ⌜ r < 136 ⌝ }
+{
+    mask_cell(high, g) + 2
+}
+
+// Hub g's pointer of a class becomes x.
+fn point(s: &mut Cascade, high: bool, g: u32, x: u32)
+    requires { ⌜ (1 ≤ g) × (g ≤ 32) ⌝ }
+    ensures { λ _. ⌜ now (s .exit) ≡ set (now (s .entry)) (pointerCell high g) x ⌝ }
+{
+    let at = pointer_cell(high, g);
+    s[at] = x;
+}
+
+// Rule 3, a hub h found at port q of hub g: the pointer is that port, marked; h resumes if it was so before, and else starts afresh.
+fn go_down(s: &mut Cascade, high: bool, g: u32, q: u32, h: u32)
+    requires { ⌜ (1 ≤ g) × (g ≤ 32) ⌝ }
+    requires { ⌜ (1 ≤ q) × (q ≤ 32) ⌝ }
+    requires { ⌜ (1 ≤ h) × (h ≤ 32) ⌝ }
+    ensures { λ _. ⌜ now (s .exit) ≡ downBy high g q h (now (s .entry)) ⌝ }
+{
+    let at = pointer_cell(high, g);
+    let before = s[at];
+    let marked = q * 2 + 1;
+    s[at] = marked;
+    if before == marked {
+        return;
+    }
+    point(s, high, h, 2);
+}
+
+// Rule 3 at port q of hub g.
+fn take(p: &Plan, s: &mut Cascade, high: bool, g: u32, q: u32) -> Look
+    requires { ⌜ (1 ≤ g) × (g ≤ 32) ⌝ }
+    requires { ⌜ (1 ≤ q) × (q ≤ 32) ⌝ }
+    ensures { λ r. ⌜ r ≡ takeBy high g q (portOf (getD (now (p .entry)) (portCell g q) 0)) (now (s .entry)) .look ⌝ }
+    ensures { λ r. ⌜ now (s .exit) ≡ takeBy high g q (portOf (getD (now (p .entry)) (portCell g q) 0)) (now (s .entry)) .cells ⌝ }
+{
+    let x = p[8 + (g as usize - 1) * 36 + (3 + q as usize)];
+    if x == 0 {
+        return Look::Stop;
+    }
+    if x <= 256 {
+        point(s, high, g, (q + 1) * 2);
+        return Look::Node(x);
+    }
+    let h = x - 256;
+    if 32 < h {
+        return Look::Stop;
+    }
+    go_down(s, high, g, q, h);
+    Look::Pass(h)
+}
+
+// Rule 4 at a lower hub that stands at port q of hub h.
+fn go_up(s: &mut Cascade, high: bool, h: u32, q: u32) -> Look
+    ensures { λ r. ⌜ r ≡ upBy high h q (now (s .entry)) .look ⌝ }
+    ensures { λ r. ⌜ now (s .exit) ≡ upBy high h q (now (s .entry)) .cells ⌝ }
+{
+    if h < 1 {
+        return Look::Stop;
+    }
+    if 32 < h {
+        return Look::Stop;
+    }
+    if 32 < q {
+        return Look::Stop;
+    }
+    point(s, high, h, (q + 1) * 2);
+    Look::Pass(h)
+}
+
+// Rule 4 at hub g: the root goes to port 1, another hands control up.
+fn hand_up(p: &Plan, s: &mut Cascade, high: bool, g: u32) -> Look
+    requires { ⌜ (1 ≤ g) × (g ≤ 32) ⌝ }
+    ensures { λ r. ⌜ r ≡ handUpBy (now (p .entry)) high g (now (s .entry)) .look ⌝ }
+    ensures { λ r. ⌜ now (s .exit) ≡ handUpBy (now (p .entry)) high g (now (s .entry)) .cells ⌝ }
+{
+    if g == 1 {
+        point(s, high, 1, 2);
+        return Look::Round;
+    }
+    let own = 8 + (g as usize - 1) * 36;
+    go_up(s, high, p[own + 1], p[own + 2])
+}
+
+// One look at hub g.
+fn look(p: &Plan, s: &mut Cascade, high: bool, g: u32) -> Look
+    requires { ⌜ (1 ≤ g) × (g ≤ 32) ⌝ }
+    ensures { λ r. ⌜ r ≡ lookBy (now (p .entry)) high g (now (s .entry)) .look ⌝ }
+    ensures { λ r. ⌜ now (s .exit) ≡ lookBy (now (p .entry)) high g (now (s .entry)) .cells ⌝ }
+{
+    let at = mask_cell(high, g);
+    match ports::lowest(s[at], s[at + 2] / 2) {
+        Found::Port(q) => take(p, s, high, g, q),
+        Found::Nothing => hand_up(p, s, high, g),
+    }
+}
+
+// Rules 3 and 4, repeated, with control at hub g: at most `looks` looks at a hub.
+fn walk(p: &Plan, s: &mut Cascade, high: bool, g: u32, moves: u64, looks: u32) -> Turn
+    requires { ⌜ moves + looks < 9223372036854775808 ⌝ }
+    ensures { λ r. ⌜ r ≡ walkBy (now (p .entry)) high looks g moves (now (s .entry)) .turn ⌝ }
+    ensures { λ r. ⌜ now (s .exit) ≡ walkBy (now (p .entry)) high looks g moves (now (s .entry)) .cells ⌝ }
+    ensures { λ r. ⌜ r .moves ≤ moves + looks ⌝ }
+{
+    if looks == 0 {
+        return Turn {
+            node: 0,
+            hub: g,
+            moves,
+        };
+    }
+    if g < 1 {
+        return Turn {
+            node: 0,
+            hub: g,
+            moves,
+        };
+    }
+    if 32 < g {
+        return Turn {
+            node: 0,
+            hub: g,
+            moves,
+        };
+    }
+    match look(p, s, high, g) {
+        Look::Node(k) => Turn {
+            node: k,
+            hub: g,
+            moves,
+        },
+        Look::Pass(h) => walk(p, s, high, h, moves + 1, looks - 1),
+        Look::Round => walk(p, s, high, 1, moves, looks - 1),
+        Look::Stop => Turn {
+            node: 0,
+            hub: g,
+            moves,
+        },
+    }
+}
+
+// Moves from a hub of a level up to the root: one for each level.
+fn moves_up(level: u32) -> u64
+    ensures { λ r. ⌜ r ≡ level - 1 ⌝ }
+    ensures { λ r. ⌜ r < 4294967296 ⌝ }
+{
+    if level < 1 {
+        return 0;
+    }
+    level as u64 - 1
+}
+
+// Moves from hub g up to the root.
+pub fn climb(p: &Plan, g: u32) -> u64
+    ensures { λ r. ⌜ r ≡ climbBy (now (p .entry)) g ⌝ }
+    ensures { λ r. ⌜ r < 4294967296 ⌝ }
+{
+    if g < 1 {
+        return 0;
+    }
+    if 32 < g {
+        return 0;
+    }
+    moves_up(p[8 + (g as usize - 1) * 36 + 3])
+}
+
+// Moves from hub g up to hub t of its line.
+fn climb_to(p: &Plan, g: u32, t: u32) -> u64
+    ensures { λ r. ⌜ r ≡ climbBy (now (p .entry)) g - climbBy (now (p .entry)) t ⌝ }
+    ensures { λ r. ⌜ r < 4294967296 ⌝ }
+{
+    let whole = climb(p, g);
+    let rest = climb(p, t);
+    if whole < rest {
+        return 0;
+    }
+    whole - rest
+}
+
+// Rule 2, one hub g of the holder's line, which goes on at port q: t stays the nearest hub if g's pointer is marked and there.
+fn nearer(pointer: u32, g: u32, q: u32, t: u32) -> u32
+    ensures { λ r. ⌜ r ≡ nearerBy pointer g q t ⌝ }
+{
+    let mark = pointer % 2;
+    let port = pointer / 2;
+    if mark == 0 {
+        return g;
+    }
+    if port == q {
+        return t;
+    }
+    g
+}
+
+// From hub g up to the root, t being the nearest hub of those passed.
+fn nearest(p: &Plan, s: &Cascade, high: bool, g: u32, q: u32, t: u32, levels: u32) -> u32
+    ensures { λ r. ⌜ r ≡ nearestBy (now (p .entry)) high levels g q t (now (s .entry)) ⌝ }
+{
+    if levels == 0 {
+        return 1;
+    }
+    if g < 1 {
+        return 1;
+    }
+    if 32 < g {
+        return 1;
+    }
+    let u = nearer(s[pointer_cell(high, g)], g, q, t);
+    if g == 1 {
+        return u;
+    }
+    let own = 8 + (g as usize - 1) * 36;
+    nearest(p, s, high, p[own + 1], p[own + 2], u, levels - 1)
+}
+
+// Rule 2: where the class sought differs from that of the latest grant, control goes up to the nearest hub first.
+fn walk_from(p: &Plan, s: &mut Cascade, high: bool) -> Turn
+    ensures { λ r. ⌜ r ≡ walked (now (p .entry)) high (now (s .entry)) .turn ⌝ }
+    ensures { λ r. ⌜ now (s .exit) ≡ walked (now (p .entry)) high (now (s .entry)) .cells ⌝ }
+{
+    let holder = s[5];
+    if s[6] == high as u32 {
+        return walk(p, s, high, holder, 0, 15);
+    }
+    let hub = nearest(p, s, high, holder, 0, holder, 5);
+    let moves = climb_to(p, holder, hub);
+    walk(p, s, high, hub, moves, 15)
+}
+
+// Who has control after a turn, and of what class the latest grant was.
+fn settle(s: &mut Cascade, high: bool, t: Turn)
+    ensures { λ _. ⌜ now (s .exit) ≡ settled high t (now (s .entry)) ⌝ }
+{
+    s[5] = t.hub;
+    if t.node == 0 {
+        return;
+    }
+    s[6] = high as u32;
+}
+
+// The turn of a class that is sought.
+pub fn choose(p: &Plan, s: &mut Cascade, high: bool) -> Turn
+    ensures { λ r. ⌜ r ≡ chooseBy (now (p .entry)) high (now (s .entry)) .turn ⌝ }
+    ensures { λ r. ⌜ now (s .exit) ≡ chooseBy (now (p .entry)) high (now (s .entry)) .cells ⌝ }
+{
+    let t = walk_from(p, s, high);
+    settle(s, high, t);
+    t
+}

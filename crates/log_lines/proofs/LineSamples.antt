@@ -1,0 +1,30 @@
+-- Lines of the log, byte by byte, by computing.
+use mathlib.Core.Path.{_≡_, refl}
+use mathlib.Core.List.{[], _∷_}
+use Rattle.text.specs.Number.{digits, digitsBy}
+use Rattle.text.specs.Form.{drawForm, drawNumbers}
+use Rattle.writer.specs.Write.{drawLine}
+use Rattle.rules.specs.Call.{high, refused, grant}
+use Rattle.cells.specs.declared.Step.the-variants.{Grant, Rest}
+use Rattle.log_lines.specs.FirstLine.{refusedLine}
+use Rattle.log_lines.specs.Lines.{grantLine, restLine, stepLine, answerLine}
+
+-- `(grant 7 3 2 40 1)`
+granted : stepLine (Grant 7 3 2 40 1) ≡ 40 ∷ 103 ∷ 114 ∷ 97 ∷ 110 ∷ 116 ∷ 32 ∷ 55 ∷ 32 ∷ 51 ∷ 32 ∷ 50 ∷ 32 ∷ 52 ∷ 48 ∷ 32 ∷ 49 ∷ 41 ∷ 10 ∷ []
+unfolding stepLine grantLine drawLine drawForm drawNumbers digits digitsBy
+granted = refl
+
+-- `(grant 7 3 2 40 1)`
+granted-answer : answerLine 15 (grant 7 3 high 40 1) ≡ 40 ∷ 103 ∷ 114 ∷ 97 ∷ 110 ∷ 116 ∷ 32 ∷ 55 ∷ 32 ∷ 51 ∷ 32 ∷ 50 ∷ 32 ∷ 52 ∷ 48 ∷ 32 ∷ 49 ∷ 41 ∷ 10 ∷ []
+unfolding answerLine grantLine drawLine drawForm drawNumbers digits digitsBy
+granted-answer = refl
+
+-- `(rest 40 2)`
+rested : stepLine (Rest 40 2) ≡ 40 ∷ 114 ∷ 101 ∷ 115 ∷ 116 ∷ 32 ∷ 52 ∷ 48 ∷ 32 ∷ 50 ∷ 41 ∷ 10 ∷ []
+unfolding stepLine restLine drawLine drawForm drawNumbers digits digitsBy
+rested = refl
+
+-- `(refused 15 16)`
+refused-event : answerLine 15 (refused 16) ≡ 40 ∷ 114 ∷ 101 ∷ 102 ∷ 117 ∷ 115 ∷ 101 ∷ 100 ∷ 32 ∷ 49 ∷ 53 ∷ 32 ∷ 49 ∷ 54 ∷ 41 ∷ 10 ∷ []
+unfolding answerLine refusedLine drawLine drawForm drawNumbers digits digitsBy
+refused-event = refl

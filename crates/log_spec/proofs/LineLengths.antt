@@ -1,0 +1,117 @@
+-- How long the lines of the log are at most, each with its LF, and how long an event's line is at least.
+use Prim.Native.Nat.{ℕ, _+_, _≤_, _<_, _^_}
+use mathlib.Core.Path.{_≡_, refl}
+use mathlib.Core.Bool.{Bool, true, false}
+use mathlib.Core.List.{List, [], _∷_, _++_}
+use mathlib.Core.Option.{Option, none, some}
+use native.Mathlib.Omega.{arith}
+use lib.ListN.{length, drop, length-append}
+use Rattle.rules.specs.Call.{Class, normal, high, Call}
+use Rattle.text.specs.Number.{digits}
+use Rattle.text.specs.Word.{startsWith}
+use Rattle.text.specs.Form.{drawNumbers, drawForm, readBehind, readForm, formOf}
+use Rattle.text.proofs.Digits.{digits-length}
+use Rattle.text.proofs.Words.{starts-length}
+use Rattle.writer.specs.Write.{drawLine}
+use Rattle.log_lines.specs.FirstLine.{nodes-word, hubs-word, refused-word, nodesHead, nodesLine, refusedLine}
+use Rattle.log_lines.specs.Lines.{grant-word, rest-word, grantLine, restLine, classNumber}
+use Rattle.events.specs.declared.Event.{Event}
+use Rattle.events.specs.Event.{normal-word, high-word, off-word, reserve-word, until-word, orElse, formed, eventOf, callOf}
+
+-- each number with the space before it
+spaced : List ℕ → ℕ
+spaced [] = 0
+spaced (n ∷ ns) = 1 + length (digits n) + spaced ns
+
+numbers-length : (ns : List ℕ) → length (drawNumbers ns) ≡ spaced ns + 1
+unfolding drawNumbers spaced
+numbers-length [] = refl
+numbers-length (n ∷ ns) = omega (arith, length-append (digits n) (drawNumbers ns), numbers-length ns)
+
+-- the word, its numbers, the bracket and the LF
+line-length : (word ns : List ℕ) → length (drawLine word ns) ≡ length word + spaced ns + 2
+unfolding drawLine drawForm
+line-length word ns =
+    omega (arith, length-append (word ++ drawNumbers ns) (10 ∷ []), length-append word (drawNumbers ns), numbers-length ns)
+
+class-length : (c : Class) → length (digits (classNumber c)) ≤ 1
+class-length normal = digits-length 0 1 (omega arith)
+class-length high = digits-length 0 2 (omega arith)
+
+pub grant-length : (s k : ℕ) (c : Class) (end moves : ℕ) → s < 10 ^ 15 → k < 1000 → end < 10 ^ 16 → moves < 100
+    → length (grantLine s k (classNumber c) end moves) ≤ 50
+unfolding grantLine spaced
+grant-length s k c end moves a b d e =
+    omega (
+      arith,
+      line-length grant-word (s ∷ k ∷ classNumber c ∷ end ∷ moves ∷ []),
+      digits-length 14 s a,
+      digits-length 2 k (omega arith),
+      class-length c,
+      digits-length 15 end d,
+      digits-length 1 moves (omega arith),
+    )
+
+pub rest-length : (s moves : ℕ) → s < 10 ^ 15 → moves < 100 → length (restLine s moves) ≤ 26
+unfolding restLine spaced
+rest-length s moves a b =
+    omega (arith, line-length rest-word (s ∷ moves ∷ []), digits-length 14 s a, digits-length 1 moves (omega arith))
+
+-- a refusal that names a line of the text: of row 1, and of any row
+pub no-form-length : (line number : ℕ) → line < 100000 → number < 10 → length (refusedLine line number) ≤ 18
+unfolding refusedLine spaced
+no-form-length line number a b =
+    omega (arith, line-length refused-word (line ∷ number ∷ []), digits-length 4 line (omega arith), digits-length 0 number (omega arith))
+
+pub refused-length : (line number : ℕ) → line < 100000 → number < 100 → length (refusedLine line number) ≤ 19
+unfolding refusedLine spaced
+refused-length line number a b =
+    omega (arith, line-length refused-word (line ∷ number ∷ []), digits-length 4 line (omega arith), digits-length 1 number (omega arith))
+
+-- a refusal that names any line that 64 bits can count
+pub far-length : (line number : ℕ) → line < 10 ^ 20 → number < 10 → length (refusedLine line number) ≤ 33
+unfolding refusedLine spaced
+far-length line number a b =
+    omega (arith, line-length refused-word (line ∷ number ∷ []), digits-length 19 line a, digits-length 0 number (omega arith))
+
+pub nodes-length : (nodes hubs : ℕ) → nodes < 1000 → hubs < 100 → length (nodesLine nodes hubs) ≤ 20
+unfolding nodesLine nodesHead spaced
+nodes-length nodes hubs a b =
+    omega (
+      arith,
+      line-length (nodes-word ++ digits nodes ++ hubs-word) (hubs ∷ []),
+      length-append nodes-word (digits nodes ++ hubs-word),
+      length-append (digits nodes) hubs-word,
+      digits-length 2 nodes (omega arith),
+      digits-length 1 hubs (omega arith),
+    )
+
+-- a line that is a call starts with its word, so it has at least 4 bytes
+abbrev pub Long : List ℕ → Option Call → Type 0
+Long l none = Unit {0}
+Long l (some call) = 4 ≤ length l
+
+module _ (l : List ℕ) where
+  form-long : (word : List ℕ) (count : ℕ) (event : ℕ → ℕ → ℕ → ℕ → Event) (otherwise : Event) → 4 ≤ length word
+      → (4 ≤ length l → (a b c d : ℕ) → Long l (callOf (event a b c d))) → Long l (callOf otherwise)
+      → Long l (callOf (orElse (formed word count l) event otherwise))
+  unfolding readForm
+  form-long word count event otherwise w is other = go (startsWith word l) refl
+    where
+      by-numbers : 4 ≤ length l → (o : Option (List ℕ)) → Long l (callOf (orElse (formOf o) event otherwise))
+      by-numbers h none = unfold formOf in other
+      by-numbers h (some ns) = unfold formOf in is h _ _ _ _
+
+      go : (b : Bool) → startsWith word l ≡ b → Long l (callOf (orElse (formOf (readBehind b count (drop (length word) l))) event otherwise))
+      go true e = by-numbers (omega (arith, starts-length word l e)) (readBehind true count (drop (length word) l))
+      go false e = unfold readBehind formOf in other
+
+  pub call-long : Long l (callOf (eventOf l))
+  unfolding eventOf
+  call-long =
+      form-long normal-word 3 _ _ (omega arith) (λ h t k b x. h)
+      (form-long high-word 3 _ _ (omega arith) (λ h t k b x. h)
+      (form-long off-word 2 _ _ (omega arith) (λ h t k x y. h)
+      (form-long reserve-word 4 _ _ (omega arith) (λ h t k n b. h)
+      (form-long until-word 1 _ _ (omega arith) (λ h t x y z. h)
+      tt))))

@@ -1,0 +1,81 @@
+-- A pass that measures, and one that writes behind it where the log fits: together all of the log, or nothing.
+use Prim.Native.Nat.{ℕ, _≤_}
+use mathlib.Core.Path.{_≡_, refl, sym, ap, _∙_}
+use mathlib.Core.Bool.{true, false}
+use mathlib.Core.List.{List}
+use native.Mathlib.Omega.{arith}
+use lib.ListN.{length}
+use borrow.Author.Tests.{le-leb, leb-true, leb-false}
+use Rattle.rules.proofs.Laws.Passes.{Which, which, yes′, no′}
+use Rattle.rules.proofs.Laws.Clash.{clash}
+use Rattle.writer.specs.Write.{fits, putAnswer, putBuffer}
+use Rattle.writer.specs.declared.Put.{Put}
+use Rattle.writer.specs.declared.Put.the-variants.{Behind, Short}
+use Rattle.writer.proofs.Writes.{put-fits, put-short}
+use Rattle.plan.specs.Reading.{reading, leaves}
+use Rattle.log_lines.specs.Handed.{handed}
+use Rattle.log_spec.specs.Log.{logOf, logBytes}
+use Rattle.log_spec.specs.Cells.{Written, passBy, planLeft, cellsLeft}
+use Rattle.log_spec.proofs.RunLogged.{pass-writes}
+use Rattle.log_spec.proofs.LogLength.{log-bound}
+use Rattle.log_spec.proofs.AtOnce.{measured, at-once, all-written}
+
+-- what the answer says of the buffer's room
+short-not : (d : List ℕ) (at : ℕ) (bytes : List ℕ) → Short ≡ putAnswer d at bytes → fits d at bytes ≡ false
+short-not d at bytes e = go (which (fits d at bytes))
+  where
+    go : Which (fits d at bytes) → fits d at bytes ≡ false
+    go (yes′ y) = clash (cc (put-fits d at bytes (leb-true _ (length d) y) .0))
+    go (no′ n) = n
+
+behind-fits : (d : List ℕ) (at : ℕ) (bytes : List ℕ) (z : ℕ) → Behind z ≡ putAnswer d at bytes → fits d at bytes ≡ true
+behind-fits d at bytes z e = go (which (fits d at bytes))
+  where
+    go : Which (fits d at bytes) → fits d at bytes ≡ true
+    go (yes′ y) = y
+    go (no′ n) = clash (cc (put-short d at bytes (leb-false _ (length d) n) .0))
+
+-- the pass that measures: it tells whether the log fits, and changes no byte
+module _ (text spare b : List ℕ) {r : Put} {b₁ : List ℕ} (answer : r ≡ passBy false text spare b .put) (kept : b₁ ≡ passBy false text spare b .buffer) where
+  same-buffer : b₁ ≡ b
+  same-buffer = kept ∙ ap (λ (w : Written). w .buffer) (pass-writes false text spare b) ∙ measured (logOf text) b 0
+
+  told : r ≡ putAnswer b 0 (logBytes text)
+  unfolding logBytes
+  told = answer ∙ ap (λ (w : Written). w .put) (pass-writes false text spare b) ∙ at-once (logOf text) b false
+
+  pub found-short : r ≡ Short → (false ≡ fits b 0 (logBytes text)) × (b₁ ≡ b)
+  found-short e = (sym (short-not b 0 (logBytes text) (sym e ∙ told)), same-buffer)
+
+  pub found-room : (z : ℕ) → r ≡ Behind z → (true ≡ fits b 0 (logBytes text)) × (b₁ ≡ b)
+  found-room z e = (sym (behind-fits b 0 (logBytes text) z (sym e ∙ told)), same-buffer)
+
+-- every log fits in so many bytes
+pub large-room : (text b : List ℕ) → 1179648 ≤ length b → (true ≡ fits b 0 (logBytes text)) × (b ≡ b)
+large-room text b h = (sym (le-leb _ (length b) (omega (arith, log-bound text))), refl)
+
+-- what `run` promises of its answer, its buffer and its tables
+abbrev Left : List ℕ → List ℕ → List ℕ → List ℕ → Put → List ℕ → List ℕ → List ℕ → Type 0
+Left text plan s b r b′ plan′ s′ =
+    (r ≡ putAnswer b 0 (logBytes text)) × ((b′ ≡ putBuffer b 0 (logBytes text)) × ((plan′ ≡ planLeft text plan b) × (s′ ≡ cellsLeft text s b)))
+
+module _ (text plan s b : List ℕ) {b₁ : List ℕ} (same : b₁ ≡ b) where
+  pub not-written : fits b 0 (logBytes text) ≡ false → Left text plan s b Short b₁ plan s
+  unfolding planLeft cellsLeft
+  not-written short =
+      let p = put-short b 0 (logBytes text) (leb-false _ (length b) short) in
+      (sym (p .0), (same ∙ sym (p .1), rw short (refl, refl)))
+
+  pub written-whole : fits b 0 (logBytes text) ≡ true → {r : Put} {plan′ s′ b′ : List ℕ}
+      → (r ≡ passBy true text s b₁ .put) × ((s′ ≡ passBy true text s b₁ .cells) × ((b′ ≡ passBy true text s b₁ .buffer) × (plan′ ≡ leaves (reading (handed text)) plan)))
+      → Left text plan s b r b′ plan′ s′
+  unfolding planLeft cellsLeft logBytes
+  written-whole room {r} {plan′} {s′} {b′} w =
+      let p = pass-writes true text s b in
+      let v = rw same at w in (
+        v .0 ∙ ap (λ (w : Written). w .put) p ∙ at-once (logOf text) b true,
+        (
+          v .1 .1 .0 ∙ ap (λ (w : Written). w .buffer) p ∙ all-written (logOf text) b (leb-true _ (length b) room),
+          (v .1 .1 .1 ∙ rw room, v .1 .0 ∙ rw room),
+        ),
+      )

@@ -1,0 +1,3 @@
+-- What the run's own functions cite besides `log_spec`.
+pub mod Times
+pub mod LinePass
