@@ -58,38 +58,14 @@ fn plan_text(random: &mut Random) -> Vec<u8> {
     let mut lines: Vec<String> = plan::draw(&plan).lines().map(String::from).collect();
     match random.below(12) {
         0..=2 => {}
-        // Up to the most hubs or the most nodes, or one more.
-        10 | 11 => {
-            let (form, left) = if random.chance(50) {
-                ("(hub\n(node)\n)", 32 - plan.hubs.len())
-            } else {
-                ("(node)", 256 - plan.nodes)
-            };
-            for _ in 0..left + random.place(2) {
-                lines.insert(4 + random.place(lines.len() - 4), form.into());
-            }
-        }
+        10 | 11 => fill_up(random, &plan, &mut lines),
         // A figure about the limits.
         3..=5 => {
             let at = random.place(3);
             let word = lines[at].split_once(' ').unwrap().0;
             lines[at] = format!("{word} {})", random.one_of(&FIGURES));
         }
-        // More ports, nodes, hubs or levels.
-        6..=8 => {
-            let form = match random.below(6) {
-                0 => "(node)",
-                1 => "(empty)",
-                2 => "(hub\n(node)\n)",
-                3 => "(hub\n(hub\n(empty)\n)\n)",
-                4 => "(hub\n)",
-                _ => "(hub",
-            };
-            let at = 4 + random.place(lines.len() - 4);
-            for _ in 0..random.one_of(&[1, 1, 2, 3, 4, 5, 30, 31, 32]) {
-                lines.insert(at, form.into());
-            }
-        }
+        6..=8 => add_ports(random, &mut lines),
         // Lines lost, doubled and replaced.
         _ => {
             for _ in 0..random.within(1..=2) {
@@ -103,6 +79,40 @@ fn plan_text(random: &mut Random) -> Vec<u8> {
         }
     }
     let mut text = lines.join("\n").into_bytes();
+    end(random, &mut text);
+    text
+}
+
+/// Up to the most hubs or the most nodes, or one more.
+fn fill_up(random: &mut Random, plan: &plan::Plan, lines: &mut Vec<String>) {
+    let (form, left) = if random.chance(50) {
+        ("(hub\n(node)\n)", 32 - plan.hubs.len())
+    } else {
+        ("(node)", 256 - plan.nodes)
+    };
+    for _ in 0..left + random.place(2) {
+        lines.insert(4 + random.place(lines.len() - 4), form.into());
+    }
+}
+
+/// More ports, nodes, hubs or levels.
+fn add_ports(random: &mut Random, lines: &mut Vec<String>) {
+    let form = match random.below(6) {
+        0 => "(node)",
+        1 => "(empty)",
+        2 => "(hub\n(node)\n)",
+        3 => "(hub\n(hub\n(empty)\n)\n)",
+        4 => "(hub\n)",
+        _ => "(hub",
+    };
+    let at = 4 + random.place(lines.len() - 4);
+    for _ in 0..random.one_of(&[1, 1, 2, 3, 4, 5, 30, 31, 32]) {
+        lines.insert(at, form.into());
+    }
+}
+
+/// The last LF, mostly; or none, a text cut off, a byte changed, or something behind the plan.
+fn end(random: &mut Random, text: &mut Vec<u8>) {
     match random.below(20) {
         0 => {}
         1 => text.truncate(random.place(text.len() + 1)),
@@ -114,7 +124,6 @@ fn plan_text(random: &mut Random) -> Vec<u8> {
         4 => text.extend(std::iter::repeat_n(b' ', 100)),
         _ => text.push(b'\n'),
     }
-    text
 }
 
 /// Whether the crate tells of a taken plan's table the figures and the tree that the reference read.

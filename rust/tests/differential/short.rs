@@ -3,6 +3,7 @@
 use crate::archive::{self, five, Archive, Fenced};
 use crate::{control, FILL, FILL_CELL};
 use reference::log::log;
+use reference::plan::Plan;
 use reference::random::calls::{list, Style};
 use reference::random::{plans, texts, Random};
 
@@ -63,6 +64,24 @@ fn every_shorter_buffer() {
     }
 }
 
+/// Lends a list and a table of answers of this length: the archive answers this number, and nothing is done.
+fn nothing_done(plan: &Plan, calls: &[u64], answers: usize, number: u32) {
+    let mut lent = Fenced::new(calls.len());
+    let lent = lent.last(calls.len());
+    lent.copy_from_slice(calls);
+    let mut table = Fenced::new(answers);
+    let table = table.last(answers);
+    table.fill(77);
+    let mut hub = Archive::new(plan);
+    // A table that no call leaves: it is compared as it is.
+    *hub.cascade().last_mut().unwrap() = 5;
+    let before = (*hub.plan(), *hub.cascade());
+    let (plan_table, cascade) = hub.tables();
+    let answered = archive::list(plan_table, cascade, lent, table);
+    assert_eq!(answered, number, "{} numbers, {answers}", calls.len());
+    assert!(table.iter().all(|&number| number == 77) && before == (*hub.plan(), *hub.cascade()));
+}
+
 #[test]
 fn lists_that_are_not_done() {
     let plan = plans::small_plan(&mut Random::new(5), 8);
@@ -72,24 +91,7 @@ fn lists_that_are_not_done() {
         .collect();
     let mut tried = 0;
     let mut nothing_done = |calls: &[u64], answers: usize, number: u32| {
-        let mut lent = Fenced::new(calls.len());
-        let lent = lent.last(calls.len());
-        lent.copy_from_slice(calls);
-        let mut table = Fenced::new(answers);
-        let table = table.last(answers);
-        table.fill(77);
-        let mut hub = Archive::new(&plan);
-        // A table that no call leaves: it is compared as it is.
-        *hub.cascade().last_mut().unwrap() = 5;
-        let before = (*hub.plan(), *hub.cascade());
-        let (plan_table, cascade) = hub.tables();
-        assert_eq!(
-            archive::list(plan_table, cascade, lent, table),
-            number,
-            "{} numbers, {answers}",
-            calls.len()
-        );
-        assert!(table.iter().all(|&number| number == 77) && before == (*hub.plan(), *hub.cascade()));
+        nothing_done(&plan, calls, answers, number);
         tried += 1;
     };
     for count in 0..=40 {
@@ -105,18 +107,26 @@ fn lists_that_are_not_done() {
             nothing_done(&calls[..count * 5 + more], 300, 1);
             nothing_done(&calls[..count * 5 + more], 0, 1);
         }
-        // A call of no kind.
-        for kind in [0, 7, 8, 256, 1 << 32, (1 << 32) + 1, (1 << 63) + 6, u64::MAX] {
-            for place in 0..count {
-                let mut calls = calls[..count * 5].to_vec();
-                calls[place * 5] = kind;
-                nothing_done(&calls, 300, 1);
-                nothing_done(&calls, 0, 1);
-            }
+        for calls in of_no_kind(&calls[..count * 5]) {
+            nothing_done(&calls, 300, 1);
+            nothing_done(&calls, 0, 1);
         }
     }
     println!("{tried} lists");
     let mut hub = Archive::new(&plan);
     let (plan_table, cascade) = hub.tables();
     assert_eq!(archive::list(plan_table, cascade, &[], &mut []), 0, "no call, no answer");
+}
+
+/// A list with each call in turn made one of no kind.
+fn of_no_kind(calls: &[u64]) -> Vec<Vec<u64>> {
+    let kinds = [0, 7, 8, 256, 1 << 32, (1 << 32) + 1, (1 << 63) + 6, u64::MAX];
+    let places = (0..calls.len()).step_by(5);
+    let changed = places.flat_map(|place| kinds.map(|kind| (place, kind)));
+    let list = |(place, kind): (usize, u64)| {
+        let mut list = calls.to_vec();
+        list[place] = kind;
+        list
+    };
+    changed.map(list).collect()
 }
