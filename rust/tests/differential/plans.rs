@@ -83,6 +83,12 @@ fn plan_text(random: &mut Random) -> Vec<u8> {
     text
 }
 
+/// Some place behind the root's first line.
+fn in_tree(random: &mut Random, lines: &[String]) -> usize {
+    let root = lines.iter().position(|line| line == "(hub").expect("a plan has a root");
+    root + 1 + random.place(lines.len() - root - 1)
+}
+
 /// Up to the most hubs or the most nodes, or one more.
 fn fill_up(random: &mut Random, plan: &plan::Plan, lines: &mut Vec<String>) {
     let (form, left) = if random.chance(50) {
@@ -91,7 +97,7 @@ fn fill_up(random: &mut Random, plan: &plan::Plan, lines: &mut Vec<String>) {
         ("(node)", 256 - plan.nodes)
     };
     for _ in 0..left + random.place(2) {
-        lines.insert(4 + random.place(lines.len() - 4), form.into());
+        lines.insert(in_tree(random, lines), form.into());
     }
 }
 
@@ -105,7 +111,7 @@ fn add_ports(random: &mut Random, lines: &mut Vec<String>) {
         4 => "(hub\n)",
         _ => "(hub",
     };
-    let at = 4 + random.place(lines.len() - 4);
+    let at = in_tree(random, lines);
     for _ in 0..random.one_of(&[1, 1, 2, 3, 4, 5, 30, 31, 32]) {
         lines.insert(at, form.into());
     }
