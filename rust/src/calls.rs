@@ -68,6 +68,13 @@ pub enum Call {
 
 impl Call {
     /// t: an event's time, or a step's bound.
+    ///
+    /// ```
+    /// use lembuya::Call;
+    ///
+    /// assert_eq!(Call::Off { time: 5, node: 2 }.time(), 5);
+    /// assert_eq!(Call::Step { bound: 7 }.time(), 7);
+    /// ```
     pub fn time(self) -> u64 {
         match self {
             Call::Normal { time, .. }
@@ -79,15 +86,48 @@ impl Call {
         }
     }
 
-    /// The five numbers of a call in the archive's lists: kind, t, k, n and b.
-    pub(crate) fn numbers(self) -> [u64; 5] {
+    /// k, where the call has a node.
+    ///
+    /// ```
+    /// use lembuya::Call;
+    ///
+    /// assert_eq!(Call::Off { time: 5, node: 2 }.node(), Some(2));
+    /// assert_eq!(Call::Until { time: 5 }.node(), None);
+    /// ```
+    pub fn node(self) -> Option<u64> {
+        let [_, _, node, _, _] = self.fields();
+        node
+    }
+
+    /// The five numbers of a call in the archive's lists: kind, t, k, n and b, as `include/lembuya.h` has them; 0 where
+    /// its kind lacks one.
+    ///
+    /// ```
+    /// use lembuya::Call;
+    ///
+    /// assert_eq!(Call::Normal { time: 5, node: 2, bits: 512 }.numbers(), [1, 5, 2, 0, 512]);
+    /// ```
+    pub fn numbers(self) -> [u64; 5] {
+        self.fields().map(|number| number.unwrap_or(0))
+    }
+
+    /// The same numbers, and none where its kind lacks one: the archive doesn't look at that place.
+    ///
+    /// ```
+    /// use lembuya::Call;
+    ///
+    /// assert_eq!(Call::Off { time: 5, node: 2 }.fields(), [Some(3), Some(5), Some(2), None, None]);
+    /// ```
+    pub fn fields(self) -> [Option<u64>; 5] {
         match self {
-            Call::Normal { time, node, bits } => [1, time, node, 0, bits],
-            Call::High { time, node, bits } => [2, time, node, 0, bits],
-            Call::Off { time, node } => [3, time, node, 0, 0],
-            Call::Reserve { time, node, packets, bits } => [4, time, node, packets, bits],
-            Call::Until { time } => [5, time, 0, 0, 0],
-            Call::Step { bound } => [6, bound, 0, 0, 0],
+            Call::Normal { time, node, bits } => [Some(1), Some(time), Some(node), None, Some(bits)],
+            Call::High { time, node, bits } => [Some(2), Some(time), Some(node), None, Some(bits)],
+            Call::Off { time, node } => [Some(3), Some(time), Some(node), None, None],
+            Call::Reserve { time, node, packets, bits } => {
+                [Some(4), Some(time), Some(node), Some(packets), Some(bits)]
+            }
+            Call::Until { time } => [Some(5), Some(time), None, None, None],
+            Call::Step { bound } => [Some(6), Some(bound), None, None, None],
         }
     }
 }

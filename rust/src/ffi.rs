@@ -50,8 +50,8 @@ extern "C" {
         answers_length: usize,
     ) -> u32;
     /// The whole log of a text into a buffer, with both tables lent for the run. 0, and `end` is the
-    /// log's length; or 18, `end` is 0, and the buffer has the lines that fit before the first that
-    /// doesn't.
+    /// log's length; or 18 where not all of it fits, and the buffer, both tables and `end` are what
+    /// they were. A refused plan leaves both tables as they were too.
     pub fn lembuya_run(
         text: *const u8,
         length: usize,

@@ -9,10 +9,10 @@
 //! function meets its contract, never faults and always ends. This crate gives it Rust's types and
 //! adds no rule of its own. "Document 01" is the paper that the proofs follow.
 //!
-//! - [`Plan`]: a tree of hubs and its figures, read from a text.
+//! - [`Plan`]: a tree of hubs and its figures, read from a text. [`Hub`], [`Port`] and [`Place`] tell its tree.
 //! - [`Cascade`]: a plan's hub at work. It takes five events and the step.
 //! - [`Step`], [`Refused`]: what it answers. Their `Display` is the log's form and document 01's words.
-//! - [`Call`], [`Answer`]: the same as values, for a list of calls.
+//! - [`Call`], [`Answer`]: the same as values, for a list of calls. A `Call` is read from an event line, and shown as one.
 //! - [`log()`], [`log_into`]: the whole log of a text.
 //! - [`ffi`]: the archive's functions as they are.
 //!
@@ -76,17 +76,22 @@
 
 mod calls;
 mod cascade;
+mod cells;
 pub mod ffi;
+mod forms;
 mod log;
 mod plan;
 mod refused;
 mod safe;
+mod tree;
 
 pub use calls::{Answer, Call, Class, Step};
 pub use cascade::{Cascade, StepsBefore};
+pub use forms::ParseCallError;
 pub use log::{log, log_into, LONGEST_LOG, LONGEST_TEXT};
 pub use plan::{Events, Plan};
 pub use refused::{PlanRefused, PlanRow, Refused, RefusedLine, Short};
+pub use tree::{Hub, Place, Port};
 
 /// Document 01's plan and events, for tests.
 #[cfg(test)]

@@ -1,5 +1,6 @@
 //! The plan: a tree of hubs and its figures.
 
+use crate::cells::plan as cells;
 use crate::{ffi, safe, Cascade, PlanRefused};
 use std::fmt;
 use std::sync::Arc;
@@ -73,6 +74,93 @@ impl Plan {
         }
     }
 
+    /// The latest time that an event or a step may have, by row 11 of document 01's table: 10^15.
+    ///
+    /// ```
+    /// use lembuya::{Plan, Refused};
+    ///
+    /// let plan = Plan::read(b"(frame 100000)\n(overhead 1000)\n(interrupt 13000)\n(hub\n(node)\n)\n")?;
+    /// let mut hub = plan.cascade();
+    /// assert_eq!(hub.until(Plan::LATEST_TIME + 1), Err(Refused::Time));
+    /// assert_eq!(hub.until(Plan::LATEST_TIME), Ok(()));
+    /// # Ok::<(), lembuya::PlanRefused>(())
+    /// ```
+    pub const LATEST_TIME: u64 = 1_000_000_000_000_000;
+
+    /// The longest packet that any plan has, in bits. [`Plan::longest_packet`] is one plan's own.
+    ///
+    /// ```
+    /// assert_eq!(lembuya::Plan::LONGEST_PACKET, 12_000);
+    /// ```
+    pub const LONGEST_PACKET: u64 = 12_000;
+
+    /// The largest overhead of a packet that any plan has.
+    ///
+    /// ```
+    /// use lembuya::Plan;
+    ///
+    /// let taken = |overhead: u64| {
+    ///     let figures = format!("(frame 100000)\n(overhead {overhead})\n(interrupt {})\n", Plan::LONGEST_PACKET + overhead);
+    ///     Plan::read(format!("{figures}(hub\n(node)\n)\n").as_bytes()).is_ok()
+    /// };
+    /// assert!(taken(Plan::LARGEST_OVERHEAD) && !taken(Plan::LARGEST_OVERHEAD + 1));
+    /// ```
+    pub const LARGEST_OVERHEAD: u64 = 50_000;
+
+    /// T, the time frame.
+    ///
+    /// ```
+    /// use lembuya::Plan;
+    ///
+    /// let plan = Plan::read(b"(frame 100000)\n(overhead 1000)\n(interrupt 13000)\n(hub\n(node)\n)\n")?;
+    /// assert_eq!(plan.frame(), 100_000);
+    /// # Ok::<(), lembuya::PlanRefused>(())
+    /// ```
+    pub fn frame(&self) -> u64 {
+        self.cell(cells::FRAME)
+    }
+
+    /// O, the overhead of one packet.
+    ///
+    /// ```
+    /// use lembuya::Plan;
+    ///
+    /// let plan = Plan::read(b"(frame 100000)\n(overhead 1000)\n(interrupt 13000)\n(hub\n(node)\n)\n")?;
+    /// assert_eq!(plan.overhead(), 1_000);
+    /// # Ok::<(), lembuya::PlanRefused>(())
+    /// ```
+    pub fn overhead(&self) -> u64 {
+        self.cell(cells::OVERHEAD)
+    }
+
+    /// D, the longest time that a packet in progress can hold the line.
+    ///
+    /// ```
+    /// use lembuya::Plan;
+    ///
+    /// let plan = Plan::read(b"(frame 100000)\n(overhead 1000)\n(interrupt 13000)\n(hub\n(node)\n)\n")?;
+    /// assert_eq!(plan.interrupt(), 13_000);
+    /// # Ok::<(), lembuya::PlanRefused>(())
+    /// ```
+    pub fn interrupt(&self) -> u64 {
+        self.cell(cells::INTERRUPT)
+    }
+
+    /// The longest packet of this plan, in bits: a request for a longer one is refused by row 15.
+    ///
+    /// ```
+    /// use lembuya::{Plan, Refused};
+    ///
+    /// let plan = Plan::read(b"(frame 100000)\n(overhead 1000)\n(interrupt 13000)\n(hub\n(node)\n)\n")?;
+    /// let mut hub = plan.cascade();
+    /// assert_eq!(hub.normal(0, 1, plan.longest_packet()), Ok(()));
+    /// assert_eq!(hub.normal(0, 1, plan.longest_packet() + 1), Err(Refused::Length));
+    /// # Ok::<(), lembuya::PlanRefused>(())
+    /// ```
+    pub fn longest_packet(&self) -> u64 {
+        Plan::LONGEST_PACKET
+    }
+
     /// N, the number of nodes, 1 to 256. They are numbered from 1 in line order.
     pub fn nodes(&self) -> u64 {
         self.read.nodes
@@ -95,6 +183,11 @@ impl Plan {
 
     pub(crate) fn cells(&self) -> &ffi::Plan {
         &self.read.cells
+    }
+
+    /// What a cell holds.
+    pub(crate) fn cell(&self, at: usize) -> u64 {
+        self.read.cells[at].into()
     }
 }
 

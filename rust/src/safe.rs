@@ -65,7 +65,7 @@ pub fn list(plan: &Plan, cascade: &mut Cascade, calls: &[[u64; 5]], answers: &mu
     }
 }
 
-/// The number, and the log's length; 0 where it doesn't fit.
+/// The number, and the log's length; 0 where it doesn't fit, since the archive leaves `end` as it was then.
 pub fn run(text: &[u8], plan: &mut Plan, cascade: &mut Cascade, log: &mut [u8]) -> (u32, u64) {
     let mut end = [0];
     // SAFETY: both tables are whole; `text` is read and `log` written for its length; all but `text`

@@ -2,6 +2,9 @@
 //! that lies against pages that nobody may touch.
 #![allow(dead_code)]
 
+#[path = "../../src/cells.rs"]
+pub mod cells;
+
 use lembuya::ffi::{self, CASCADE_CELLS, PLAN_CELLS};
 use reference::core::Class;
 use reference::hub::{Answer, Call, Calls};
@@ -65,16 +68,21 @@ impl<T: Copy> Drop for Fenced<T> {
     }
 }
 
-/// The kind, t, k, n and b of a call; `junk` where its kind doesn't have a number.
-pub fn five(call: Call, mut junk: impl FnMut() -> u64) -> [u64; 5] {
+/// The crate's call that a call of the reference is.
+pub fn of_crate(call: Call) -> lembuya::Call {
     match call {
-        Call::Normal { t, k, b } => [1, t, k, junk(), b],
-        Call::High { t, k, b } => [2, t, k, junk(), b],
-        Call::Off { t, k } => [3, t, k, junk(), junk()],
-        Call::Reserve { t, k, n, b } => [4, t, k, n, b],
-        Call::Until { t } => [5, t, junk(), junk(), junk()],
-        Call::Step { t } => [6, t, junk(), junk(), junk()],
+        Call::Normal { t, k, b } => lembuya::Call::Normal { time: t, node: k, bits: b },
+        Call::High { t, k, b } => lembuya::Call::High { time: t, node: k, bits: b },
+        Call::Off { t, k } => lembuya::Call::Off { time: t, node: k },
+        Call::Reserve { t, k, n, b } => lembuya::Call::Reserve { time: t, node: k, packets: n, bits: b },
+        Call::Until { t } => lembuya::Call::Until { time: t },
+        Call::Step { t } => lembuya::Call::Step { bound: t },
     }
+}
+
+/// The kind, t, k, n and b of a call, coded by the crate; `junk` where its kind doesn't have a number.
+pub fn five(call: Call, mut junk: impl FnMut() -> u64) -> [u64; 5] {
+    of_crate(call).fields().map(|number| number.unwrap_or_else(&mut junk))
 }
 
 /// The answer that six numbers are, in a list an event's too; none where they are no answer to this call.

@@ -7,6 +7,7 @@ use reference::fast::Fast;
 use reference::flat::Flat;
 use reference::hub::{Answer, Calls, Hub};
 use reference::plan::{read, Plan};
+use std::collections::BTreeMap;
 use std::path::{Path, PathBuf};
 
 /// Document 01's plan of the log and of most trial cases.
@@ -55,14 +56,18 @@ pub fn texts(folder: &Path) -> Vec<PathBuf> {
     entries.filter(|path| path.extension().is_some_and(|extension| extension == "text")).collect()
 }
 
-/// The texts as they count now: those of `after-4` stand in place of the ones of
-/// the same name.
+/// The texts as they count now: those of the requests that have landed stand in
+/// place of the ones of the same name, later ones of earlier ones.
 pub fn texts_now() -> Vec<PathBuf> {
-    let after = vectors().join("after-4");
-    let mut all = texts(&vectors());
-    all.retain(|path| !after.join(path.file_name().unwrap()).exists());
-    all.extend(texts(&after));
-    all
+    let landed = include_str!("../../../../tools/landed").lines();
+    let landed =
+        landed.map(|line| line.split('#').next().unwrap().trim()).filter(|number| !number.is_empty());
+    let after = landed.map(|number| vectors().join(format!("after-{number}"))).filter(|path| path.is_dir());
+    let mut now = BTreeMap::new();
+    for folder in [vectors()].into_iter().chain(after) {
+        now.extend(texts(&folder).into_iter().map(|path| (path.file_name().unwrap().to_owned(), path)));
+    }
+    now.into_values().collect()
 }
 
 /// The numbers of a line of the log that begins with this word.

@@ -2,8 +2,9 @@
 
 use crate::args::{self, Args, Options, Wrong};
 use crate::shares::{self, Share};
-use crate::text::{Figures, Text};
+use crate::text::Text;
 use crate::{log, run, End};
+use lembuya::Plan;
 
 pub const OPTIONS: Options = &[];
 
@@ -32,8 +33,8 @@ pub fn command(args: &Args) -> Result<End, Wrong> {
         match Text::read(&bytes) {
             Err(_) => end = End::Refused,
             Ok(text) => {
-                let shares = shares::reserved(text.nodes, &text.accepted(&entries), u64::MAX);
-                args::print(&page(file, text.figures, &shares))?;
+                let shares = shares::reserved(&text.plan, &text.accepted(&entries), u64::MAX);
+                args::print(&page(file, &text.plan, &shares))?;
             }
         }
     }
@@ -41,9 +42,9 @@ pub fn command(args: &Args) -> Result<End, Wrong> {
 }
 
 /// The table of one text.
-fn page(file: &str, figures: Figures, shares: &[Share]) -> String {
-    let Figures { frame, overhead, interrupt } = figures;
-    let load = shares::load(figures, shares);
+fn page(file: &str, plan: &Plan, shares: &[Share]) -> String {
+    let (frame, overhead, interrupt) = (plan.frame(), plan.overhead(), plan.interrupt());
+    let load = shares::load(plan, shares);
     let mut page = format!(
         "{file}: frame {frame} ({} us), overhead {overhead}, interrupt {interrupt}\n\
          load {load} of {frame} bit times, {} %\n",
@@ -56,8 +57,8 @@ fn page(file: &str, figures: Figures, shares: &[Share]) -> String {
     }
     page += &row(["node", "n", "b", "share", "share %", "delay limit", "delay limit us"].map(String::from));
     for k in reserved {
-        let (share, limit) = (shares[k], shares::delay_limit(figures, shares, k));
-        let own = share.load(figures);
+        let (share, limit) = (shares[k], shares::delay_limit(plan, shares, k));
+        let own = share.load(plan);
         let numbers = [k as u64 + 1, share.packets, share.bits, own].map(|number| number.to_string());
         let [node, n, b, own_shown] = numbers;
         page += &row([node, n, b, own_shown, per_cent(own, frame), limit.to_string(), microseconds(limit)]);
@@ -88,17 +89,17 @@ mod tests {
 
     #[test]
     fn the_examples_page() {
-        let figures = Figures { frame: 100_000, overhead: 1_000, interrupt: 13_000 };
+        let plan = Plan::read(include_bytes!("../../../../examples/example.text")).unwrap();
         let none = Share::default();
         let shares = [none, none, Share { packets: 2, bits: 4_000 }, none];
         assert_eq!(
-            page("a", figures, &shares),
+            page("a", &plan, &shares),
             "a: frame 100000 (1000.00 us), overhead 1000, interrupt 13000\n\
              load 23000 of 100000 bit times, 23.00 %\n\
              node   n      b    share  share %  delay limit  delay limit us\n   \
                 3   2   4000    10000    10.00        23000          230.00\n"
         );
-        assert!(page("a", figures, &[none])
+        assert!(page("a", &plan, &[none])
             .ends_with("load 13000 of 100000 bit times, 13.00 %\nnothing is reserved\n"));
     }
 

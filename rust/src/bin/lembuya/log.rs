@@ -1,6 +1,6 @@
 //! The log's lines as values.
 
-use lembuya::{Class, PlanRow, Refused, Step};
+use lembuya::{Class, Plan, PlanRow, Refused, Step};
 
 /// A line of the log.
 #[derive(Clone, Copy, Debug, PartialEq, Eq)]
@@ -54,8 +54,9 @@ impl Entry {
     }
 }
 
-/// No time of a log lies behind this one: 10^15, document 01's latest, and the longest packet and overhead.
-pub const LATEST: u64 = 1_000_000_000_000_000 + 62_000;
+/// No time of a log lies behind this one: the end of the longest packet of any plan, granted at the latest time. A log
+/// alone doesn't tell its plan's own figures, so those of every plan are taken.
+pub const LATEST: u64 = Plan::LATEST_TIME + Plan::LONGEST_PACKET + Plan::LARGEST_OVERHEAD;
 
 /// A log's lines, without their LF; that of the last one may be missing.
 pub fn lines(bytes: &[u8]) -> Vec<&[u8]> {

@@ -1,20 +1,10 @@
 //! What a picture shows, in rows and times; nothing of where it stands on the page.
 
+use super::places::{Places, Row};
 use crate::log::Entry;
 use crate::shares::{self, Share};
-use crate::text::{Event, Figures, Port, Text};
-use lembuya::{Class, Step};
-
-/// A row: a hub, a node, or, where the plan isn't known, control.
-#[derive(Clone, Debug, PartialEq, Eq)]
-pub struct Row {
-    /// How deep it stands in the tree, from 0.
-    pub depth: usize,
-    /// What stands beside it.
-    pub label: String,
-    /// A hub's row, or that of control.
-    pub is_hub: bool,
-}
+use crate::text::Text;
+use lembuya::{Call, Class, Plan, Step};
 
 /// A stretch of time on a row, with what a browser shows of it.
 #[derive(Clone, Debug, PartialEq, Eq)]
@@ -96,12 +86,12 @@ impl Chart {
         let mut chart = Chart::empty(title, places.figures(text), from, to, places.rows.clone());
         chart.add_turns(&places, entries, last);
         if let Some(text) = text {
-            let frames = (to - from) / text.figures.frame;
+            let frames = (to - from) / text.plan.frame();
             if frames > MOST_FRAMES {
                 let most = format!("--from and --to take at most {MOST_FRAMES} of them");
                 return Err(format!("{frames} frames are too many for a picture; {most}"));
             }
-            chart.add_frames(&places, text, &accepted);
+            chart.add_frames(&places, &text.plan, &accepted);
             chart.add_refusals(&places, text, entries);
         }
         Ok(chart)
@@ -168,16 +158,16 @@ impl Chart {
     }
 
     /// Frames, and in each the delay limit of every node with a reservation in force.
-    fn add_frames(&mut self, places: &Places, text: &Text, accepted: &[&Event]) {
-        let frame = text.figures.frame;
+    fn add_frames(&mut self, places: &Places, plan: &Plan, accepted: &[Call]) {
+        let frame = plan.frame();
         for number in self.from / frame..=(self.to - 1) / frame {
             let start = number * frame;
             if start >= self.from {
                 self.frames.push((number, start));
             }
-            let shares = shares::reserved(text.nodes, accepted, start);
+            let shares = shares::reserved(plan, accepted, start);
             for (k, share) in shares.iter().enumerate().filter(|(_, share)| share.packets > 0) {
-                let limit = shares::delay_limit(text.figures, &shares, k);
+                let limit = shares::delay_limit(plan, &shares, k);
                 let at = start + limit;
                 if (self.from..=self.to).contains(&at) {
                     let title = limit_words(k + 1, number, *share, limit, at);
@@ -191,11 +181,11 @@ impl Chart {
         for entry in entries {
             let Entry::Refused { line, number } = entry else { continue };
             let Some(event) = text.events.iter().find(|event| event.line == *line) else { continue };
-            let row =
-                event.node().filter(|node| (1..=text.nodes).contains(node)).map(|node| places.node[node - 1]);
-            if let (Some(row), true) = (row, (self.from..self.to).contains(&event.time())) {
+            let node = event.call.node().filter(|node| (1..=text.plan.nodes()).contains(node));
+            let (row, at) = (node.map(|node| places.node[node as usize - 1]), event.call.time());
+            if let (Some(row), true) = (row, (self.from..self.to).contains(&at)) {
                 let title = format!("(refused {line} {number}): {}", crate::log::words(*number, false));
-                self.refusals.push(Mark { row, at: event.time(), title });
+                self.refusals.push(Mark { row, at, title });
             }
         }
     }
@@ -231,69 +221,6 @@ fn time(turn: Step) -> u64 {
     }
 }
 
-/// Which row is whose.
-struct Places {
-    rows: Vec<Row>,
-    /// The row of node k stands at k - 1.
-    node: Vec<usize>,
-    /// The row of its hub, which has control when it is granted.
-    holder: Vec<usize>,
-    root: usize,
-}
-
-impl Places {
-    fn new(text: Option<&Text>, entries: &[Entry]) -> Places {
-        match (text, entries.first()) {
-            (Some(text), _) => Places::of_tree(&text.ports),
-            (None, Some(Entry::Taken { nodes, .. })) => Places::of_nodes(*nodes as usize),
-            _ => unreachable!("a log of a taken plan says how many nodes there are"),
-        }
-    }
-
-    fn of_tree(ports: &[Port]) -> Places {
-        let mut places = Places { rows: Vec::new(), node: Vec::new(), holder: Vec::new(), root: 0 };
-        let mut hubs = Vec::new();
-        for (row, port) in ports.iter().enumerate() {
-            let (depth, label, is_hub) = match port {
-                Port::Hub { hub, level } => {
-                    hubs.push(row);
-                    (level - 1, format!("hub {hub}"), true)
-                }
-                Port::Node { node, hub, level } => {
-                    places.node.push(row);
-                    places.holder.push(hubs[hub - 1]);
-                    (*level, format!("node {node}"), false)
-                }
-            };
-            places.rows.push(Row { depth, label, is_hub });
-        }
-        places
-    }
-
-    /// Without a plan: control, and the nodes one below the other.
-    fn of_nodes(nodes: usize) -> Places {
-        let control = Row { depth: 0, label: "moves".into(), is_hub: true };
-        let node = (1..=nodes).map(|node| Row { depth: 1, label: format!("node {node}"), is_hub: false });
-        Places {
-            rows: [control].into_iter().chain(node).collect(),
-            node: (1..=nodes).collect(),
-            holder: vec![0; nodes],
-            root: 0,
-        }
-    }
-
-    fn figures(&self, text: Option<&Text>) -> String {
-        let hubs = self.rows.iter().filter(|row| row.is_hub).count();
-        match text {
-            None => format!("{} nodes; times in bit times (10 ns)", self.node.len()),
-            Some(Text { figures: Figures { frame, overhead, interrupt }, .. }) => format!(
-                "{} nodes, {hubs} hubs; frame {frame}, overhead {overhead}, interrupt {interrupt} bit times (10 ns)",
-                self.node.len()
-            ),
-        }
-    }
-}
-
 #[cfg(test)]
 mod tests {
     use super::*;
@@ -303,12 +230,6 @@ mod tests {
     fn example(from: Option<u64>, to: Option<u64>) -> Chart {
         let entries = crate::log::read(&lembuya::log(EXAMPLE)).unwrap();
         Chart::new("example", Some(&Text::read(EXAMPLE).unwrap()), &entries, from, to).unwrap()
-    }
-
-    #[test]
-    fn rows_are_in_line_order() {
-        let labels: Vec<_> = example(None, None).rows.iter().map(|row| row.label.clone()).collect();
-        assert_eq!(labels, ["hub 1", "node 1", "hub 2", "node 2", "node 3", "node 4"]);
     }
 
     #[test]

@@ -247,7 +247,8 @@ fn cross_at(svg: &mut Svg, x: f64, y: f64, half: f64, title: &str) {
 
 #[cfg(test)]
 mod tests {
-    use super::super::chart::{Bar, Row};
+    use super::super::chart::Bar;
+    use super::super::places::Row;
     use super::*;
 
     /// The number behind a name in an element.

@@ -1,11 +1,13 @@
 //! `lembuya picture`: a log as an SVG.
 //!
 //! - `chart`: what is drawn, in times and rows.
+//! - `places`: which row is whose.
 //! - `draw`: where that stands on the page.
 //! - `svg`: the page's elements as text.
 
 mod chart;
 mod draw;
+mod places;
 mod svg;
 
 use crate::args::{self, Args, Options, Wrong};

@@ -1,0 +1,182 @@
+//! Lists of calls with their answers, in the form of `../shared/vectors/calls/README.md`, made over the archive.
+//!
+//! Each request that adds calls adds an arm to `Runner::line`, for a line that has no answer, or to `Runner::answer`. An answer is
+//! shown as the crate shows it, so that it gains a number when the crate's does.
+
+use lembuya::{Answer, Call, Cascade, Plan};
+
+/// What is wrong with a list, each with its line: nothing where every answer is the one given, and there is one at least.
+pub fn wrong(text: &str) -> Vec<String> {
+    let mut runner = Runner { cascade: None, answers: 0 };
+    let mut lines = (1..).zip(text.lines());
+    let mut wrong = Vec::new();
+    while let Some((number, line)) = lines.next() {
+        if let Err(words) = runner.line(line, &mut lines) {
+            wrong.push(format!("line {number}: {words}"));
+        }
+    }
+    if runner.answers == 0 {
+        wrong.push("it has no call".into());
+    }
+    wrong
+}
+
+/// What the calls are made on.
+struct Runner {
+    cascade: Option<Cascade>,
+    /// How many answers were compared.
+    answers: usize,
+}
+
+impl Runner {
+    /// A line: nothing, a plan with the lines behind it, or a call with its answer.
+    fn line<'l>(
+        &mut self,
+        line: &str,
+        behind: &mut impl Iterator<Item = (usize, &'l str)>,
+    ) -> Result<(), String> {
+        match line {
+            "" => Ok(()),
+            comment if comment.starts_with('#') => Ok(()),
+            "plan" => self.plan(behind),
+            _ => {
+                let (call, expected) = line.split_once(" = ").ok_or("neither a call nor a plan")?;
+                self.answers += 1;
+                let answer = self.answer(call)?;
+                let same = answer == expected;
+                same.then_some(()).ok_or_else(|| format!("{call} = {answer}, not {expected}"))
+            }
+        }
+    }
+
+    /// The plan's lines up to `.`; the calls behind it are made on its fresh cascade.
+    fn plan<'l>(&mut self, lines: &mut impl Iterator<Item = (usize, &'l str)>) -> Result<(), String> {
+        self.cascade = None;
+        let mut text = String::new();
+        loop {
+            match lines.next() {
+                None => return Err("the plan has no end".into()),
+                Some((_, ".")) => break,
+                Some((_, line)) => text += &format!("{line}\n"),
+            }
+        }
+        let plan =
+            Plan::read(text.as_bytes()).map_err(|refused| format!("the plan is refused: {refused}"))?;
+        self.cascade = Some(plan.cascade());
+        Ok(())
+    }
+
+    /// Makes a call. What is no call, or has no plan before it, is an error: nothing is passed over.
+    fn answer(&mut self, call: &str) -> Result<String, String> {
+        let cascade = self.cascade.as_mut().ok_or_else(|| format!("no plan stands before {call}"))?;
+        let no_call = || format!("no call that is known here: {call}");
+        match call.split(' ').collect::<Vec<_>>()[..] {
+            ["step", bound] => {
+                let bound = bound.parse().map_err(|_| no_call())?;
+                Ok(shown(cascade.call(Call::Step { bound })))
+            }
+            // All others so far are events, whose forms the crate knows.
+            _ => Ok(shown(cascade.call(format!("({call})").parse().map_err(|_| no_call())?))),
+        }
+    }
+}
+
+/// An answer as the lists have it: 0, the number that refused it, or a step's as in the log, without brackets.
+fn shown(answer: Answer) -> String {
+    match answer {
+        Answer::Taken => "0".into(),
+        Answer::Refused(row) => row.number().to_string(),
+        Answer::Step(step) => step.to_string().trim_matches(['(', ')']).into(),
+    }
+}
+
+#[cfg(test)]
+pub mod tests {
+    use super::*;
+
+    /// Document 01's example, whose log that document has; before each event all steps before its time are made.
+    pub const EXAMPLE: &str = "\
+# Document 01's example, call by call.
+plan
+(frame 100000)
+(overhead 1000)
+(interrupt 13000)
+(hub
+(node)
+(hub
+(node)
+(node)
+)
+(node)
+)
+.
+
+reserve 0 3 2 4000 = 0
+normal 0 1 12000 = 0
+normal 0 4 6000 = 0
+high 0 3 4000 = 16
+until 99000 = 12
+step 99000 = grant 0 1 1 13000 0
+step 99000 = grant 13000 4 1 20000 0
+step 99000 = rest 20000 0
+step 99000 = quiet
+off 99000 5 = 13
+normal 99000 2 12000 = 0
+step 100000 = grant 99000 2 1 112000 1
+step 98999 = 11
+high 100000 3 4000 = 0
+normal 100000 1 1000 = 0
+off 100000 4 = 0
+step 200000 = grant 112000 3 2 117000 2
+step 200000 = grant 117000 1 1 119000 1
+step 200000 = rest 119000 0
+until 200000 = 0
+";
+
+    /// What is wrong with the example when a part of it is replaced.
+    fn changed(from: &str, to: &str) -> Vec<String> {
+        assert!(EXAMPLE.contains(from), "{from}");
+        wrong(&EXAMPLE.replacen(from, to, 1))
+    }
+
+    #[test]
+    fn the_example_agrees() {
+        assert_eq!(wrong(EXAMPLE), Vec::<String>::new());
+        // A second plan's calls are made on its own fresh cascade.
+        assert_eq!(wrong(&EXAMPLE.repeat(2)), Vec::<String>::new());
+    }
+
+    #[test]
+    fn another_answer_is_told_with_its_line() {
+        let words = "line 21: step 99000 = grant 0 1 1 13000 0, not grant 0 1 1 13001 0";
+        assert_eq!(changed("= grant 0 1 1 13000 0", "= grant 0 1 1 13001 0"), [words]);
+        assert_eq!(changed("3 4000 = 16", "3 4000 = 0"), ["line 19: high 0 3 4000 = 16, not 0"]);
+        assert_eq!(changed("= quiet", "= rest 20000 0"), ["line 24: step 99000 = quiet, not rest 20000 0"]);
+        // A number more or less is another answer.
+        assert_eq!(changed("13000 0\n", "13000 0 0\n").len(), 1);
+        assert_eq!(changed("rest 20000 0", "rest 20000").len(), 1);
+    }
+
+    #[test]
+    fn what_is_no_call_is_told_and_never_passed_over() {
+        for line in
+            ["train 0 1 2 0 = 0", "normal 0 1 = 0", "step = quiet", "step x = quiet", "steps 5 = quiet"]
+        {
+            let call = line.split(" = ").next().unwrap();
+            let expected = [format!("line 16: no call that is known here: {call}")];
+            assert_eq!(changed("reserve 0 3", &format!("{line}\nreserve 0 3")), expected);
+        }
+        let line = ["line 16: neither a call nor a plan"];
+        assert_eq!(changed("reserve 0 3", "until 5\nreserve 0 3"), line);
+    }
+
+    #[test]
+    fn a_list_without_a_plan_or_a_call_is_told() {
+        assert_eq!(wrong("until 5 = 0\n"), ["line 1: no plan stands before until 5"]);
+        assert_eq!(wrong("# nothing\n"), ["it has no call"]);
+        assert!(
+            changed("(frame 100000)", "(frame 99999)")[0].starts_with("line 2: the plan is refused: line 1:")
+        );
+        assert!(changed(")\n.\n", ")\n")[0].starts_with("line 2: the plan has no end"));
+    }
+}

@@ -1,0 +1,79 @@
+//! Where each number stands in the two tables: a plan's as `crates/plan/specs/Tables.antt` says, a cascade's as
+//! `crates/cells/specs/Layout.antt` does. Nothing else in Rust has the place of a cell.
+//!
+//! It names nothing of this crate, so that the tests and the benchmark can take the file in as it is; each looks at some of it.
+#![allow(dead_code)]
+
+/// A plan's table: figures, then the hubs, then the nodes.
+pub mod plan {
+    /// T.
+    pub const FRAME: usize = 0;
+    /// O.
+    pub const OVERHEAD: usize = 1;
+    /// D.
+    pub const INTERRUPT: usize = 2;
+
+    /// Where the hubs' cells start, and how many each has.
+    pub const HUBS: usize = 8;
+    pub const HUB_CELLS: usize = 36;
+    /// Of a hub's cells: how many ports it has, the hub above it, its port there, and its level; then its ports.
+    pub const PORTS: usize = 0;
+    pub const PARENT: usize = 1;
+    pub const PLACE: usize = 2;
+    pub const LEVEL: usize = 3;
+    pub const FIRST_PORT: usize = 4;
+
+    /// Where the nodes' cells start, and how many each has.
+    pub const NODES: usize = 1160;
+    pub const NODE_CELLS: usize = 2;
+    /// Of a node's cells: its hub, and its port there.
+    pub const NODE_HUB: usize = 0;
+    pub const NODE_PORT: usize = 1;
+
+    /// A port's cell is 0 where it is empty, a node's number up to this one, and this one more than a hub's number.
+    pub const HUB_CODE: u64 = 256;
+
+    /// A cell of hub g, counted from 1.
+    pub const fn hub(g: usize, cell: usize) -> usize {
+        HUBS + (g - 1) * HUB_CELLS + cell
+    }
+
+    /// The cell of a hub's port q; hubs and ports are counted from 1.
+    pub const fn port(g: usize, q: usize) -> usize {
+        hub(g, FIRST_PORT + q - 1)
+    }
+
+    /// A cell of node k, counted from 1.
+    pub const fn node(k: usize, cell: usize) -> usize {
+        NODES + (k - 1) * NODE_CELLS + cell
+    }
+}
+
+/// A cascade's table: figures, then the hubs, then the nodes. The crate itself never looks into it.
+pub mod cascade {
+    /// The clock and the busy line's end are times.
+    pub const CLOCK: usize = 0;
+    pub const END: usize = 2;
+    /// 0 while the line rests; the hub that has control; 1 where the latest grant was high; the number of standing requests.
+    pub const BUSY: usize = 4;
+    pub const HOLDER: usize = 5;
+    pub const CLASS: usize = 6;
+    pub const STANDING: usize = 7;
+
+    /// Where the hubs' cells start, and how many each has: a mask for each class, then a pointer for each.
+    pub const HUBS: usize = 8;
+    pub const HUB_CELLS: usize = 4;
+    pub const MASKS: usize = 2;
+
+    /// Where the nodes' cells start, and how many each has.
+    pub const NODES: usize = 136;
+    pub const NODE_CELLS: usize = 4;
+
+    /// A time has two cells, of which the second is its high half.
+    pub const HIGH_HALF: usize = 1;
+
+    /// The time whose cells start here.
+    pub fn time(table: &[u32], at: usize) -> u64 {
+        u64::from(table[at]) + (u64::from(table[at + HIGH_HALF]) << 32)
+    }
+}

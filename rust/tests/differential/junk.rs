@@ -1,0 +1,227 @@
+//! Tables of any content: every call answers, comes back, and keeps to what all calls promise.
+
+use crate::archive::cells::{cascade, plan};
+use crate::archive::{self, five, on_all, Archive};
+use crate::found::{assert_met, count, join, Found};
+use crate::FILL;
+use lembuya::ffi;
+use reference::hub::Call;
+use reference::log::log;
+use reference::random::calls::{list, Style};
+use reference::random::{plans, texts, Random};
+
+/// How a table's cells come about.
+#[derive(Clone, Copy, Debug)]
+enum Junk {
+    Uniform,
+    Small,
+    /// Any number where the code takes one as it is, and numbers about the limits where it tests them.
+    Shaped,
+    /// A real table with some cells changed.
+    Mutated,
+    Ones,
+    Zeros,
+    Real,
+}
+
+/// A cascade's figures, hubs and first node: the cells that every call looks at lie among these.
+const FRONT: usize = cascade::NODES + cascade::NODE_CELLS;
+
+const JUNKS: [Junk; 7] =
+    [Junk::Uniform, Junk::Small, Junk::Shaped, Junk::Mutated, Junk::Ones, Junk::Zeros, Junk::Real];
+
+fn small(random: &mut Random) -> u32 {
+    let limit = random.one_of(&[2, 3, 8, 34, 70, 260, 300, 70_000, 200_000]);
+    random.below(limit) as u32
+}
+
+fn any_cell(random: &mut Random) -> u32 {
+    match random.below(6) {
+        0 => random.number() as u32,
+        1 => u32::MAX - random.below(3) as u32,
+        2 => 1 << random.below(32),
+        3 => random.below(4_000_001) as u32,
+        _ => small(random),
+    }
+}
+
+fn spoil(random: &mut Random, junk: Junk, table: &mut [u32], shaped: fn(&mut Random, usize) -> u32) {
+    match junk {
+        Junk::Uniform => table.fill_with(|| random.number() as u32),
+        Junk::Small => {
+            let limit = random.one_of(&[2, 4, 40, 300, 140_000]);
+            table.fill_with(|| random.below(limit) as u32);
+        }
+        Junk::Shaped => (0..).zip(table).for_each(|(at, cell)| *cell = shaped(random, at)),
+        Junk::Mutated => {
+            for _ in 0..random.within(1..=20) {
+                let at = if random.chance(30) { random.place(FRONT) } else { random.place(table.len()) };
+                table[at] = match random.below(3) {
+                    0 => table[at] ^ 1 << random.below(32),
+                    1 => table[at].wrapping_add(random.one_of(&[1, u32::MAX])),
+                    _ => any_cell(random),
+                };
+            }
+        }
+        Junk::Ones => table.fill(u32::MAX),
+        Junk::Zeros => table.fill(0),
+        Junk::Real => {}
+    }
+}
+
+fn plan_cell(random: &mut Random, at: usize) -> u32 {
+    match at {
+        _ if at < plan::HUBS => any_cell(random),
+        _ if at < plan::NODES => match (at - plan::HUBS) % plan::HUB_CELLS {
+            plan::PORTS | plan::PARENT | plan::PLACE => random.below(35) as u32,
+            plan::LEVEL => any_cell(random),
+            _ => random.below(300) as u32,
+        },
+        _ => random.below(36) as u32,
+    }
+}
+
+fn cascade_cell(random: &mut Random, at: usize) -> u32 {
+    let any = any_cell(random);
+    const HIGH_HALVES: [usize; 2] = [cascade::CLOCK + cascade::HIGH_HALF, cascade::END + cascade::HIGH_HALF];
+    match at {
+        cascade::CLOCK | cascade::END => random.number() as u32,
+        // A time is mostly below 10^15.
+        _ if HIGH_HALVES.contains(&at) => random.below(250_000) as u32,
+        cascade::BUSY | cascade::HOLDER | cascade::CLASS => random.one_of(&[0, 1, 1, 2, 32, 33, u32::MAX]),
+        cascade::STANDING => random.one_of(&[0, 1, 255, 256, 257, u32::MAX]),
+        _ if at < cascade::NODES => match (at - cascade::HUBS) % cascade::HUB_CELLS {
+            mask if mask < cascade::MASKS => random.one_of(&[0, 1, 1 << 31, u32::MAX, any]),
+            _ => random.below(70) as u32,
+        },
+        _ => random.one_of(&[0, 1, 64, 65_536, 66_048, 131_072, 131_584, any]),
+    }
+}
+
+/// Real tables: a random plan's, after some calls.
+fn real(random: &mut Random, hub: &mut Archive) {
+    let plan = plans::plan(random);
+    hub.begin(&plan);
+    let length = random.place(60);
+    list(&plan, random.number(), Style::Loaded, length, hub);
+}
+
+/// A call about the limits and about the table's own times.
+fn any_call(random: &mut Random, table: &ffi::Cascade) -> Call {
+    let (clock, end) = (cascade::time(table, cascade::CLOCK), cascade::time(table, cascade::END));
+    let t = match random.below(8) {
+        0 => clock,
+        1 => end.wrapping_add(1),
+        2 => 1_000_000_000_000_000 + random.below(2),
+        3 => random.number(),
+        _ => clock.wrapping_add(random.below(10_000_000)),
+    };
+    let t =
+        if random.chance(50) { t.clamp(clock.min(1_000_000_000_000_000), 1_000_000_000_000_000) } else { t };
+    let k = match random.below(8) {
+        0 => random.number(),
+        1 => random.one_of(&[0, 1, 256, 257, u64::MAX, 1 << 32]),
+        _ => random.below(258),
+    };
+    let b = random.one_of(&[0, 511, 512, 1_000, 12_000, 12_001, u64::MAX]);
+    let n = random.one_of(&[0, 1, 2, 64, 65, u64::MAX]);
+    match random.below(8) {
+        0 => Call::Normal { t, k, b },
+        1 => Call::High { t, k, b },
+        2 => Call::Off { t, k },
+        3 => Call::Reserve { t, k, n, b },
+        4 => Call::Until { t },
+        _ => Call::Step { t },
+    }
+}
+
+/// An answer that some table could get: a refused or quiet call leaves the table.
+fn plausible(call: Call, six: [u64; 6], changed: bool) -> bool {
+    match (call, six[0]) {
+        (Call::Step { t }, 1) => six[1] < t && (1..=2).contains(&six[3]) && six[2] <= 256,
+        (Call::Step { t }, 2) => six[1] < t && six[2..5] == [0, 0, 0],
+        (Call::Step { .. }, 3 | 11) | (_, 11..=17) => six[1..] == [0; 5] && !changed,
+        (Call::Step { .. }, _) => false,
+        (_, row) => row == 0,
+    }
+}
+
+/// Two equal pairs of tables of random content take the same calls, some single and some in a list.
+fn try_junk(seed: u64, found: &mut Found) {
+    let mut random = Random::new(seed);
+    let (for_plan, for_cascade) = (random.one_of(&JUNKS), random.one_of(&JUNKS));
+    let mut one = Archive::blank(0, random.chance(70));
+    real(&mut random, &mut one);
+    spoil(&mut random, for_plan, one.plan(), plan_cell);
+    spoil(&mut random, for_cascade, one.cascade(), cascade_cell);
+    if random.chance(50) {
+        // A clock that row 11 lets pass.
+        one.cascade()[cascade::CLOCK + cascade::HIGH_HALF] %= 200_000;
+    }
+    let mut other = Archive::blank(0, random.chance(70));
+    *other.plan() = *one.plan();
+    *other.cascade() = *one.cascade();
+    let plan_before = *one.plan();
+    for _ in 0..20 {
+        let before = *one.cascade();
+        let call = any_call(&mut random, &before);
+        let six = one.six(call);
+        let what = || format!("seed {seed}: {for_plan:?}, {for_cascade:?}, {call:?}: {six:?}");
+        assert!(plausible(call, six, before != *one.cascade()), "{}", what());
+        let mut again = [9; 6];
+        if random.chance(70) {
+            again = other.six(call);
+        } else {
+            let (plan_table, cascade) = other.tables();
+            assert_eq!(archive::list(plan_table, cascade, &five(call, || 0), &mut again), 0, "{}", what());
+        }
+        assert_eq!(again, six, "{}", what());
+        assert!(one.cascade() == other.cascade(), "{}", what());
+        let name = if matches!(call, Call::Step { .. }) { "step" } else { "event" };
+        count(found, format!("{name} {}", six[0]), 1);
+        count(found, "calls", 2);
+    }
+    assert!(*one.plan() == plan_before && *other.plan() == plan_before, "seed {seed}: the plan was changed");
+    over_junk(seed, &mut random, one, other);
+    count(found, "calls", 6);
+}
+
+/// What takes the tables only to fill them: a plan read, a table made fresh, a run.
+fn over_junk(seed: u64, random: &mut Random, mut one: Archive, mut other: Archive) {
+    let text = texts::text(random);
+    let text = &text[..text.len().min(4_000)];
+    unsafe { ffi::lembuya_fresh(other.cascade()) };
+    let fresh = *other.cascade();
+    other.cascade().fill(0);
+    unsafe { ffi::lembuya_fresh(other.cascade()) };
+    assert!(fresh == *other.cascade(), "seed {seed}: what was there before doesn't matter");
+    let told = archive::read(text, other.plan());
+    let taken = told.0 == 0;
+    let before = (*one.plan(), *one.cascade());
+    let whole = log(text);
+    let mut buffer = vec![FILL; whole.len()];
+    let short = random.place(whole.len());
+    let (plan_table, cascade) = one.tables();
+    assert_eq!(archive::run(text, plan_table, cascade, &mut buffer[..short]), (18, u64::MAX), "seed {seed}");
+    assert!(buffer.iter().all(|&byte| byte == FILL), "seed {seed}: a log that doesn't fit");
+    assert!(before == (*one.plan(), *one.cascade()), "seed {seed}: a log that doesn't fit leaves the tables");
+    let (plan_table, cascade) = one.tables();
+    let number = archive::run(text, plan_table, cascade, &mut buffer);
+    assert!(number == (0, whole.len() as u64) && buffer == whole, "seed {seed}");
+    if taken {
+        assert!(one.plan() == other.plan(), "seed {seed}: a run reads the plan");
+    } else {
+        assert!(before == (*one.plan(), *one.cascade()), "seed {seed}: a refused plan leaves the tables");
+    }
+}
+
+#[test]
+fn junk_tables() {
+    let found = on_all(0..10_000, try_junk, join);
+    println!("{found:?}");
+    assert_met(&found, 400_000, &["calls"]);
+    let cases =
+        ["event 0", "event 11", "event 12", "event 13", "event 14", "event 15", "event 16", "event 17"];
+    assert_met(&found, 200, &cases);
+    assert_met(&found, 200, &["step 1", "step 2", "step 3", "step 11"]);
+}

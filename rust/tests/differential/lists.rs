@@ -1,0 +1,191 @@
+//! Lists of calls, one by one and through `lembuya_list`.
+
+use crate::archive::{self, answer, five, on_all, setting, Archive, Fenced};
+use crate::found::{assert_met, count, join};
+use crate::{control, cut_down, FILL_CELL};
+use lembuya::ffi;
+use reference::fast::Fast;
+use reference::flat::Flat;
+use reference::hub::{Answer, Call, Hub};
+use reference::plan::{self, Plan};
+use reference::random::calls::{list, Style};
+use reference::random::{plans, texts, Random};
+
+/// A list as text, to cut it down: the plan's lines, then one line a call.
+fn list_text(plan: &Plan, calls: impl IntoIterator<Item = Call>) -> Vec<u8> {
+    let mut text = plan::draw(plan);
+    for call in calls {
+        match call {
+            Call::Step { t } => text.push_str(&format!("(step {t})\n")),
+            event => text.push_str(&texts::line(event)),
+        }
+    }
+    text.into_bytes()
+}
+
+/// The plan and the calls of such a text; none where it isn't one.
+fn list_of(text: &[u8]) -> Option<(Plan, Vec<Call>)> {
+    let taken = plan::read(text).ok()?;
+    let lines = std::str::from_utf8(&text[taken.at..]).ok()?.lines();
+    let calls = lines.map(|line| {
+        let line = line.strip_prefix('(')?.strip_suffix(')')?;
+        let (word, numbers) = line.split_once(' ')?;
+        let numbers: Vec<u64> =
+            numbers.split(' ').map(|number| number.parse().ok()).collect::<Option<_>>()?;
+        Some(match (word, &numbers[..]) {
+            ("normal", &[t, k, b]) => Call::Normal { t, k, b },
+            ("high", &[t, k, b]) => Call::High { t, k, b },
+            ("off", &[t, k]) => Call::Off { t, k },
+            ("reserve", &[t, k, n, b]) => Call::Reserve { t, k, n, b },
+            ("until", &[t]) => Call::Until { t },
+            ("step", &[t]) => Call::Step { t },
+            _ => return None,
+        })
+    });
+    Some((taken.plan, calls.collect::<Option<_>>()?))
+}
+
+/// Whether every hub's answers are those of the reference's control; if not, where they differ.
+fn same_answers(plan: &Plan, list: &[(Call, Answer)]) -> Result<(), String> {
+    let (mut flat, mut fast) = (Hub::new(plan, Flat::new(plan)), Fast::new(plan));
+    let mut hub = Archive::blank(FILL_CELL, list.len().is_multiple_of(2));
+    hub.begin(plan);
+    let table = *hub.plan();
+    let most_moves = 4 * (plan.levels() as u64 - 1);
+    for (place, &(call, expected)) in list.iter().enumerate() {
+        let before = *hub.cascade();
+        let six = hub.six(call);
+        let found = answer(call, six);
+        let wrong = |what: &str| {
+            Err(format!(
+                "{what} at call {place}: {call:?}\nreference: {expected:?}\narchive: {found:?}, {six:?}"
+            ))
+        };
+        if found != Some(expected) {
+            return wrong("the answers differ");
+        }
+        if matches!(expected, Answer::Refused(_) | Answer::Quiet) && before != *hub.cascade() {
+            return wrong("a refusal or a quiet step changed the table");
+        }
+        if expected.moves() > most_moves {
+            return wrong("too many moves");
+        }
+        let (flat, fast) = (flat.call(call), fast.call(call));
+        if flat != expected.without_moves() || fast != expected.without_moves() {
+            return wrong(&format!("flat {flat:?}, fast {fast:?}"));
+        }
+    }
+    if *hub.plan() != table {
+        return Err("the plan's table was changed".into());
+    }
+    through_list(plan, list, hub.cascade())
+}
+
+/// The same through `lembuya_list`, in parts of several lengths.
+fn through_list(plan: &Plan, list: &[(Call, Answer)], left: &ffi::Cascade) -> Result<(), String> {
+    let mut random = Random::new(list.len() as u64);
+    let mut hub = Archive::new(plan);
+    let mut rest = list;
+    while !rest.is_empty() {
+        let length = random.within_or_end(1..=rest.len() as u64) as usize;
+        let (part, behind) = rest.split_at(length);
+        let mut calls = Fenced::new(length * 5);
+        let calls = calls.last(length * 5);
+        for (five_numbers, &(call, _)) in calls.chunks_exact_mut(5).zip(part) {
+            five_numbers.copy_from_slice(&five(call, || random.number()));
+        }
+        let spare = random.place(8);
+        let mut answers = Fenced::new(length * 6 + spare);
+        let answers = answers.last(length * 6 + spare);
+        answers.fill(u64::MAX);
+        let (plan_table, cascade) = hub.tables();
+        let number = archive::list(plan_table, cascade, calls, answers);
+        if number != 0 {
+            return Err(format!("lembuya_list answers {number}"));
+        }
+        for (place, (six, &(call, expected))) in answers.chunks_exact(6).zip(part).enumerate() {
+            if answer(call, six.try_into().unwrap()) != Some(expected) {
+                let place = list.len() - rest.len() + place;
+                return Err(format!(
+                    "in a list, at call {place}: {call:?}\nreference: {expected:?}\narchive: {six:?}"
+                ));
+            }
+        }
+        if answers[length * 6..].iter().any(|&number| number != u64::MAX) {
+            return Err("a number behind the answers was changed".into());
+        }
+        rest = behind;
+    }
+    if hub.cascade() != left {
+        return Err("the list leaves another table than the single calls".into());
+    }
+    Ok(())
+}
+
+fn answered(plan: &Plan, calls: Vec<Call>) -> Vec<(Call, Answer)> {
+    let mut hub = control(plan);
+    calls.into_iter().map(|call| (call, hub.call(call))).collect()
+}
+
+/// Fails with a plan and a list cut down.
+fn show_list(seed: u64, plan: &Plan, list: &[(Call, Answer)]) -> ! {
+    let same = |text: &[u8]| match list_of(text) {
+        Some((plan, calls)) => {
+            let list = answered(&plan, calls);
+            same_answers(&plan, &list)
+        }
+        None => Ok(()),
+    };
+    let text = list_text(plan, list.iter().map(|&(call, _)| call));
+    let short = cut_down(&text, |text| same(text).is_err());
+    panic!("seed {seed}: {}\n{}", same(&short).unwrap_err(), String::from_utf8_lossy(&short))
+}
+
+#[test]
+fn lists_of_calls() {
+    const LENGTH: usize = 500;
+    let calls = setting("LEMBUYA_CALLS", 1_000_000);
+    let found = on_all(
+        0..calls.div_ceil(LENGTH as u64),
+        |seed, found| {
+            let mut random = Random::new(seed);
+            let plan = plans::plan(&mut random);
+            let style = if random.chance(60) { Style::Mixed } else { Style::Loaded };
+            let list = list(&plan, random.number(), style, LENGTH, &mut control(&plan));
+            if same_answers(&plan, &list).is_err() {
+                show_list(seed, &plan, &list);
+            }
+            count(found, "calls", LENGTH as u64);
+            for (_, answer) in &list {
+                match answer {
+                    Answer::Refused(row) => count(found, format!("row {row}"), 1),
+                    Answer::Grant { class, .. } => count(found, format!("grant {class:?}"), 1),
+                    Answer::Taken => count(found, "taken", 1),
+                    Answer::Rest { .. } => count(found, "rest", 1),
+                    Answer::Quiet => count(found, "quiet", 1),
+                }
+                if answer.moves() >= 12 {
+                    count(found, "12 moves or more", 1);
+                }
+            }
+        },
+        join,
+    );
+    println!("{found:?}");
+    let least = calls / 1_000;
+    assert_met(
+        &found,
+        least,
+        &["row 11", "row 12", "row 13", "row 14", "row 15", "row 16", "row 17", "taken"],
+    );
+    assert_met(&found, least, &["grant Normal", "grant High", "rest", "quiet"]);
+    assert_met(&found, calls / 100_000, &["12 moves or more"]);
+}
+
+#[test]
+fn a_list_survives_being_text() {
+    let plan = plans::plan(&mut Random::new(3));
+    let calls: Vec<Call> =
+        list(&plan, 3, Style::Mixed, 300, &mut control(&plan)).iter().map(|&(call, _)| call).collect();
+    assert_eq!(list_of(&list_text(&plan, calls.clone())), Some((plan, calls)));
+}
