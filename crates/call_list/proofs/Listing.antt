@@ -1,4 +1,5 @@
--- The calls of a table with the answers that then stand in the other are a list of calls behind those made before: so the demands hold of it.
+-- The calls of a table with the answers that then stand in the other are a
+-- list of calls behind those made before: so the demands hold of it.
 use Prim.Native.Nat.{ℕ, zero, suc, _+_, _*_, _%_, _≤_}
 use mathlib.Core.Path.{_≡_, refl, sym, ap, ap₂, subst, _∙_}
 use mathlib.Core.Bool.{true, false, _&&_}

@@ -1,5 +1,5 @@
--- What a list of calls made as one call promises: its number, both tables left behind, and that these calls, with the answers that then stand
--- in the table, are a list of calls, so that all the demands hold of it.
+-- What a list of calls made as one call promises: its number, both tables left behind, and that these calls,
+-- with the answers that then stand in the table, are a list of calls, so that all the demands hold of it.
 use Prim.Native.Nat.{ℕ}
 use mathlib.Core.Path.{_≡_}
 use mathlib.Core.Bool.{true, false}
@@ -14,7 +14,8 @@ use Rattle.plan.specs.Taken.{TakenAs}
 use Rattle.demands.specs.Demands.{Calls, Demands}
 use Rattle.call_list.specs.Table.{countOf, listNumber, Listed, listFrom, entries}
 
--- P and s are the plan's and the cascade's cells at entry, cs and ans the two tables; r is the answer, z and bs the cascade's cells and the answers' table at exit
+-- P and s are the plan's and the cascade's cells at entry, cs and ans the two tables; r
+-- is the answer, z and bs the cascade's cells and the answers' table at exit
 module _ (P s cs ans : List ℕ) where
   -- where the number isn't 0 nothing changes
   unfoldable pub listBy : Listed

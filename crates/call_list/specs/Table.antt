@@ -9,7 +9,8 @@ use Rattle.rules.specs.Call.{Class, normal, high, Call, ask, off, reserve, unti
 use Rattle.rules.specs.Run.{Entry}
 use Rattle.cells.specs.Calls.{Performed, performBy, classNumbered}
 
--- a call is kind, t, k, n and b: kind 1 is normal, 2 high, 3 off, 4 reserve, 5 until, 6 step; a number that its kind doesn't have is not looked at
+-- a call is kind, t, k, n and b: kind 1 is normal, 2 high, 3 off, 4 reserve, 5
+-- until, 6 step; a number that its kind doesn't have is not looked at
 abbrev pub callOf : ℕ → ℕ → ℕ → ℕ → ℕ → Call
 callOf kind t k n b =
     if eqb kind 1 then ask normal t k b else
@@ -41,8 +42,8 @@ listNumber cs ans =
     then (if ltb (length ans) (countOf cs * 6) then 18 else 0)
     else 1
 
--- an answer is a number, then time, node, class, end and moves: 0 taken, 1 a grant, 2 a rest, 3 quiet, and else the number of the row that refused; a
--- number that its case doesn't have is 0
+-- an answer is a number, then time, node, class, end and moves: 0 taken, 1 a grant, 2 a rest, 3
+-- quiet, and else the number of the row that refused; a number that its case doesn't have is 0
 pub record Six : Type 0 where
   pub number : ℕ
   pub time : ℕ

@@ -144,8 +144,8 @@ isEvent (reserve t k n b) = true
 isEvent (until t) = true
 isEvent (step t) = false
 
--- What an entry point promises for every content of both tables: P and s are the plan's and the cascade's cells at entry, r is the answer and z the
--- cascade's cells at exit. First of the five events, then of the step.
+-- What an entry point promises for every content of both tables: P and s are the plan's and the cascade's cells
+-- at entry, r is the answer and z the cascade's cells at exit. First of the five events, then of the step.
 abbrev pub EventPromise : List ℕ → Call → List ℕ → ℕ → List ℕ → Type 0
 EventPromise P call s r z = (r ≡ rowBy P call s) × (z ≡ eventBy P call s)
 

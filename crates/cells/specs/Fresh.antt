@@ -1,4 +1,5 @@
--- The table before any event: no request, no reservation, the root has control, and each pointer is port 1 without mark. Nothing of it is the plan's.
+-- The table before any event: no request, no reservation, the root has control,
+-- and each pointer is port 1 without mark. Nothing of it is the plan's.
 use Prim.Native.Nat.{ℕ, zero, suc}
 use mathlib.Core.Bool.{true, false}
 use mathlib.Core.List.{List}

@@ -10,9 +10,11 @@ use Rattle.rules.specs.Core.{Request, none, standing, Share}
 use Rattle.rules.specs.Control.{Pointer}
 use Rattle.ports.specs.Mask.{digit}
 
--- Cells 0 and 1 are the clock, its low and its high 32 bits; 2 and 3 the end of a busy line; 4 is 0 while the line rests; 5 is the hub that has control;
--- 6 is 1 where the latest grant was high; 7 is the number of standing requests. Each hub has 4 cells: its masks and its pointers, of the normal
--- class and of the high one. Each node has 4: its request, the reservation in force, the latest accepted one, and its high grants in the frame.
+-- Cells 0 and 1 are the clock, its low and its high 32 bits; 2 and 3 the end of
+-- a busy line; 4 is 0 while the line rests; 5 is the hub that has control;
+-- 6 is 1 where the latest grant was high; 7 is the number of standing requests. Each hub has 4
+-- cells: its masks and its pointers, of the normal class and of the high one. Each node has 4: its
+-- request, the reservation in force, the latest accepted one, and its high grants in the frame.
 abbrev pub cells : ℕ
 cells = 1160
 

@@ -1,4 +1,5 @@
--- "A hub sees of each port only which classes count there": the masks are kept, and a change at a node mends them from its hub up to the root.
+-- "A hub sees of each port only which classes count there": the masks are
+-- kept, and a change at a node mends them from its hub up to the root.
 use Prim.Native.Nat.{ℕ, zero, suc, _+_, _-_}
 use mathlib.Core.Bool.{Bool, true, false, not, _&&_}
 use mathlib.Core.List.{List}
@@ -26,7 +27,8 @@ abbrev pub maskWith : ℕ → ℕ → Bool → ℕ
 maskWith mask q b = maskOf (putPort (shows mask) q b)
 
 module _ (P : List ℕ) (isHigh : Bool) where
-  -- port q of hub g shows b: its bit is put, and so is the hub's own in its parent, by whether the hub shows anything; up to the root, which has no parent
+  -- port q of hub g shows b: its bit is put, and so is the hub's own in its parent,
+  -- by whether the hub shows anything; up to the root, which has no parent
   unfoldable pub mend : ℕ → ℕ → ℕ → Bool → List ℕ → List ℕ
   mend zero g q b s = s
   mend (suc levels) g q b s =

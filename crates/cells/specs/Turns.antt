@@ -28,7 +28,8 @@ pub record Turned : Type 0 where
   pub cells : List ℕ
 
 module _ (isHigh : Bool) where
-  -- rule 3, a hub h found at port q of hub g: the pointer is that port, marked; h resumes if it was so before, and else starts afresh at port 1
+  -- rule 3, a hub h found at port q of hub g: the pointer is that port,
+  -- marked; h resumes if it was so before, and else starts afresh at port 1
   unfoldable pub downBy : ℕ → ℕ → ℕ → List ℕ → List ℕ
   downBy g q h s =
       let left = set s (pointerCell isHigh g) (markedCode q) in
@@ -80,7 +81,8 @@ module _ (P : List ℕ) (isHigh : Bool) where
 abbrev pub climbBy : List ℕ → ℕ → ℕ
 climbBy P g = ifHub g (getD P (plan.hubCell g 3) 0 - 1) 0
 
--- rule 2, one hub g of the holder's line, which goes on at its port q: t stays the nearest hub if g's pointer x is marked and there; else it is g
+-- rule 2, one hub g of the holder's line, which goes on at its port q: t
+-- stays the nearest hub if g's pointer x is marked and there; else it is g
 unfoldable pub nearerBy : ℕ → ℕ → ℕ → ℕ → ℕ
 nearerBy x g q t = if eqb x (markedCode q) then t else g
 
@@ -91,7 +93,8 @@ nearestBy P isHigh (suc levels) g q t s =
     let u = nearerBy (getD s (pointerCell isHigh g) 0) g q t in
     ifHub g (if eqb g 1 then u else nearestBy P isHigh levels (getD P (plan.hubCell g 1) 0) (getD P (plan.hubCell g 2) 0) u s) 1
 
--- where control turns, from the holder up; what its own pointer is doesn't matter, since the nearest hub so far is the holder either way (0 is no port)
+-- where control turns, from the holder up; what its own pointer is doesn't
+-- matter, since the nearest hub so far is the holder either way (0 is no port)
 abbrev pub turningBy : List ℕ → Bool → List ℕ → ℕ
 turningBy P isHigh s = nearestBy P isHigh most-levels (getD s holder-cell 0) 0 (getD s holder-cell 0) s
 

@@ -1,5 +1,6 @@
 // Control, hub by hub: a look finds the port by trailing zeros of the hub's mask, and the walk passes control until a node is found.
-// No public function has a `requires`: each says its answer and the whole table that it leaves, for every content, by a definition of `cells`.
+// No public function has a `requires`: each says its answer and the whole
+// table that it leaves, for every content, by a definition of `cells`.
 use cells::Cascade;
 use cells::Look;
 use cells::Turn;

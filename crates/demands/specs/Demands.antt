@@ -1,4 +1,5 @@
--- The demands, of the entry points as they can be called. Their contracts (hub/src/lib.rt, requests/src/lib.rt) are these, for every content of both tables:
+-- The demands, of the entry points as they can be called. Their contracts
+-- (hub/src/lib.rt, requests/src/lib.rt) are these, for every content of both tables:
 --
 --   fresh(s)                 leaves freshCells
 --   normal(p, s, t, k, b)    EventPromise P (ask normal t k b) s r z
@@ -8,8 +9,8 @@
 --   until(p, s, t)           EventPromise P (until t) s r z
 --   step(p, s, t)            StepPromise P t s r z
 --
--- where P and s are the cells at entry, r is the answer and z the cascade's cells at exit. Below: what follows for every plan text that is taken and every
--- list of such calls from its fresh table.
+-- where P and s are the cells at entry, r is the answer and z the cascade's cells at exit. Below:
+-- what follows for every plan text that is taken and every list of such calls from its fresh table.
 use Prim.Native.Nat.{ℕ, _-_, _*_, _≤_}
 use mathlib.Core.Path.{_≡_}
 use mathlib.Core.Bool.{true}
@@ -32,8 +33,9 @@ use Rattle.cells.specs.Decode.{hubOf, coreOf}
 use Rattle.cells.specs.Fresh.{freshCells}
 use Rattle.cells.specs.Calls.{isEvent, EventPromise, StepPromise, eventAnswer, stepAnswer, performBy}
 
--- A list of calls made one after the other on one table, with their answers, the latest first, and the table that they left: the first call gets the
--- fresh table, each later one what the last left, and nobody else writes to it meanwhile. Refused calls and quiet steps stand in it too.
+-- A list of calls made one after the other on one table, with their answers, the latest first, and
+-- the table that they left: the first call gets the fresh table, each later one what the last left,
+-- and nobody else writes to it meanwhile. Refused calls and quiet steps stand in it too.
 pub data Calls (P : List ℕ) : List Entry → List ℕ → Type 0 where
   before : Calls P [] freshCells
   event : {past : List Entry} {s : List ℕ} → Calls P past s → (call : Call) → isEvent call ≡ true → (r : ℕ) (z : List ℕ) → EventPromise P call s r z
@@ -60,13 +62,14 @@ module _ (P : List ℕ) (p : Plan) (past : List Entry) (s : List ℕ) where
     pub by-rules : past ≡ made p (control p) (callsOf past) .past
     -- at most 4 × (L - 1) moves in each grant and rest
     pub few-moves : Every (λ a. movesOf a ≤ 4 * (levels p - 1)) past
-    -- Request 13 of document 02: in a run of grants of one class, with w returns of the root's pointer, which the answers tell, at most 2 × (H - 1) × (w + 1)
+    -- Request 13 of document 02: in a run of grants of one class, with w returns of
+    -- the root's pointer, which the answers tell, at most 2 × (H - 1) × (w + 1)
     -- moves after the first
     pub travels : Travels p past
     -- Demand 3, one claim over the whole list
     pub demand-3 : Holds3 p past
-    -- Request 5 of document 02: a high request of a node with packets left in its frame, put up at any t and kept standing, is granted by t + D + the sum of c of the
-    -- other nodes that have a reservation, where no change comes into force before
+    -- Request 5 of document 02: a high request of a node with packets left in its frame, put up at any t and kept standing, is
+    -- granted by t + D + the sum of c of the other nodes that have a reservation, where no change comes into force before
     pub any-moment : AnyMoment p past
     -- the cells are the hub that the calls left, and each further call answers as the rules do on that hub
     pub hub : hubOf p s ≡ made p (control p) (callsOf past) .hub

@@ -34,13 +34,14 @@ module _ (p : Plan) (calls : List Call) where
     pub few-moves : Every (λ a. movesOf a ≤ 4 * (levels p - 1)) (cascade .past)
     -- Request 4 of document 02: in the same state the rule 2 that went up to the root answers the same, in no fewer moves
     pub saves : (call : Call) → SavesOn p (cascade .hub) call
-    -- Request 13 of document 02: in a run of grants of one class, with w returns of the root's pointer, which the answers tell, at most 2 × (H - 1) × (w + 1)
+    -- Request 13 of document 02: in a run of grants of one class, with w returns of
+    -- the root's pointer, which the answers tell, at most 2 × (H - 1) × (w + 1)
     -- moves after the first
     pub travels : Travels p (cascade .past)
     -- Demand 3
     pub demand-3 : Holds3 p (cascade .past)
-    -- Request 5 of document 02: a high request of a node with packets left in its frame, put up at any t and kept standing, is granted by t + D + the sum of c of the
-    -- other nodes that have a reservation, where no change comes into force before
+    -- Request 5 of document 02: a high request of a node with packets left in its frame, put up at any t and kept standing, is
+    -- granted by t + D + the sum of c of the other nodes that have a reservation, where no change comes into force before
     pub any-moment : AnyMoment p (cascade .past)
     -- No time is lost, and the clock never goes back
     pub no-time-lost : NoTimeLost p (control p) (cascade .hub)

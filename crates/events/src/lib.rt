@@ -1,4 +1,5 @@
-// Event lines: what a line of a lent text says. No public function has a `requires`: it says its whole answer for every input, by a definition of specs/.
+// Event lines: what a line of a lent text says. No public function has a `requires`:
+// it says its whole answer for every input, by a definition of specs/.
 use text::Form;
 ghost use mathlib.Core.Path.{_≡_};
 ghost use Rattle.text.specs.Part.{part};

@@ -1,5 +1,6 @@
 // Frames: the clock, what a frame's start changes, and the sum of all reservations.
-// No public function has a `requires`: each says its answer and the whole table that it leaves, for every content, by a definition of `cells`.
+// No public function has a `requires`: each says its answer and the whole
+// table that it leaves, for every content, by a definition of `cells`.
 use cells::Cascade;
 use plan::Plan;
 ghost use mathlib.Core.Path.{_≡_};
@@ -119,7 +120,8 @@ fn small_load(overhead: u32, share: u32) -> u64
     load(overhead, share)
 }
 
-// The loads of nodes n to 1 on top of a sum. The call of itself is the last thing, so that the compiler makes a loop of it: 256 calls in one another are slow.
+// The loads of nodes n to 1 on top of a sum. The call of itself is the last thing,
+// so that the compiler makes a loop of it: 256 calls in one another are slow.
 fn loads_onto(p: &Plan, s: &Cascade, n: u32, others: u64) -> u64
     requires { ⌜ n ≤ 256 ⌝ }
     requires { ⌜ others + n * 1125899906842624 ≤ 288230376151711744 ⌝ }

@@ -1,4 +1,5 @@
--- Laws of the calls: the rows of one call stand before those of a longer one, what a call that no row refuses keeps, and what a call leaves.
+-- Laws of the calls: the rows of one call stand before those of a longer
+-- one, what a call that no row refuses keeps, and what a call leaves.
 use Prim.Native.Nat.{ℕ, _≤_, _<_}
 use mathlib.Core.Path.{_≡_, refl, sym, _∙_}
 use mathlib.Core.Bool.{Bool, true, false, _||_}

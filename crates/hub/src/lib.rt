@@ -1,5 +1,6 @@
 // The cascade hub: the five events and the step.
-// No public function has a `requires`: each says its answer and the whole table that it leaves, for every content of both tables, by a definition of `cells`.
+// No public function has a `requires`: each says its answer and the whole table
+// that it leaves, for every content of both tables, by a definition of `cells`.
 use cells::Cascade;
 use cells::Step;
 use plan::Plan;

@@ -1,5 +1,5 @@
-// The hub for programs in C and Rust: include/lembuya.h has a comment for each function. No exported function has a `requires`: each says its answer and
-// all that it leaves, for every content of the tables and every length of the texts, lists and buffers.
+// The hub for programs in C and Rust: include/lembuya.h has a comment for each function. No exported function has a `requires`:
+// each says its answer and all that it leaves, for every content of the tables and every length of the texts, lists and buffers.
 use cells::Cascade;
 use cells::Step;
 use plan::Answer;

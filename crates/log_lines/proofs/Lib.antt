@@ -1,4 +1,5 @@
--- For the programs: what was written lies within the buffer (Within). Wrote and PutSame serve the proofs here; the samples are lines by computing.
+-- For the programs: what was written lies within the buffer (Within). Wrote
+-- and PutSame serve the proofs here; the samples are lines by computing.
 pub mod Within
 pub mod Wrote
 mod PutSame

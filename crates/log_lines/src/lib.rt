@@ -1,4 +1,5 @@
-// How much of a text is read, and the log's lines: the plan's own, grants, rests and refusals, each written whole into a lent buffer or not at all.
+// How much of a text is read, and the log's lines: the plan's own, grants,
+// rests and refusals, each written whole into a lent buffer or not at all.
 // No public function has a `requires`: each says its whole answer and the whole of what is lent to it, by a definition of specs/.
 use cells::Step;
 use plan::Answer;
@@ -76,8 +77,8 @@ pub fn refused_line(line: u64, number: u32, write: bool, buffer: &mut [u8], at: 
     writer::put_form(write, buffer, at, b"(refused", &numbers)
 }
 
-// The line of a step's answer into the buffer from `at` on, or nothing. Without `write` it is only measured. Quiet has no line; neither has a refused
-// step, which no run makes.
+// The line of a step's answer into the buffer from `at` on, or nothing. Without `write` it
+// is only measured. Quiet has no line; neither has a refused step, which no run makes.
 pub fn step_line(step: Step, write: bool, buffer: &mut [u8], at: usize) -> Put
     ensures { λ r. ⌜ r ≡ putAnswer (now (buffer .entry)) at (stepLine step) ⌝ }
     ensures { λ r. ⌜ now (buffer .exit) ≡ passBuffer write (now (buffer .entry)) at (stepLine step) ⌝ }

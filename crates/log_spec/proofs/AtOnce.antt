@@ -1,5 +1,5 @@
--- Lines one by one against all their bytes at once: a pass answers what writing them at once does, one that measures changes no byte, and one that writes
--- leaves all of them where they fit.
+-- Lines one by one against all their bytes at once: a pass answers what writing them at once does,
+-- one that measures changes no byte, and one that writes leaves all of them where they fit.
 use Prim.Native.Nat.{ℕ, _+_, _≤_, _<_}
 use mathlib.Core.Path.{_≡_, refl, sym, ap, _∙_}
 use mathlib.Core.Bool.{Bool, true, false}

@@ -1,5 +1,5 @@
--- Event lines pay for the log behind the plan's line: the steps before an event are paid for by what is aside (PutAside), and 18 bytes for each byte of an
--- event's line, with its LF, pay for its refusal or for what it puts aside.
+-- Event lines pay for the log behind the plan's line: the steps before an event are paid for by what is aside (PutAside),
+-- and 18 bytes for each byte of an event's line, with its LF, pay for its refusal or for what it puts aside.
 use Prim.Native.Nat.{ℕ, zero, suc, _+_, _*_, _≤_, _<_}
 use mathlib.Core.Path.{_≡_, refl, subst, ap}
 use mathlib.Core.Bool.{Bool, true, false}

@@ -1,4 +1,5 @@
--- Where the events of a taken plan start: within the text, at least 4 bytes behind its start, and on a line whose number is at most one above that place.
+-- Where the events of a taken plan start: within the text, at least 4 bytes
+-- behind its start, and on a line whose number is at most one above that place.
 use Prim.Native.Nat.{ℕ, _+_, _≤_, _<_}
 use mathlib.Core.Path.{_≡_, sym, ap, _∙_}
 use mathlib.Core.List.{List, [], _∷_}

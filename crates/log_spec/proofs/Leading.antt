@@ -1,4 +1,5 @@
--- Calls that lead to cells and to a hub at once: the next call answers the same over both, and leads on. The budget of steps is the same number.
+-- Calls that lead to cells and to a hub at once: the next call answers the
+-- same over both, and leads on. The budget of steps is the same number.
 use Prim.Native.Nat.{ℕ}
 use mathlib.Core.Path.{_≡_, refl, ap, _∙_}
 use mathlib.Core.Bool.{Bool, true, false}

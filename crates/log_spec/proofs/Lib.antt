@@ -1,6 +1,7 @@
--- The theorems: Sample (document 01's example by computing), RunLogged (a pass over the lent tables writes or measures the log), AtOnce (lines one by one are
--- their bytes at once), NoStepLeft (no step is left out), LogLength (no log has more than 18 × 65,536 bytes). Writing, Leading, StepsLogged and EventsLogged
--- serve the second; LineLengths, PutAside, EventsPaid, EventsPlace and RefusedPlan serve the last.
+-- The theorems: Sample (document 01's example by computing), RunLogged (a pass over the lent tables writes
+-- or measures the log), AtOnce (lines one by one are their bytes at once), NoStepLeft (no step is left out),
+-- LogLength (no log has more than 18 × 65,536 bytes). Writing, Leading, StepsLogged and EventsLogged serve
+-- the second; LineLengths, PutAside, EventsPaid, EventsPlace and RefusedPlan serve the last.
 pub mod Sample
 pub mod Writing
 pub mod Leading

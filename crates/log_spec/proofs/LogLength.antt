@@ -1,5 +1,5 @@
--- Where the plan is taken the log has at most 18 bytes for each byte of the text that is read. So no log has more than 18 × 65,536 bytes: a refused plan's is
--- one line of at most 33.
+-- Where the plan is taken the log has at most 18 bytes for each byte of the text that is read.
+-- So no log has more than 18 × 65,536 bytes: a refused plan's is one line of at most 33.
 use Prim.Native.Nat.{ℕ, zero, suc, _*_, _≤_}
 use mathlib.Core.Path.{_≡_, refl, ap}
 use mathlib.Core.List.{List, [], flatten}

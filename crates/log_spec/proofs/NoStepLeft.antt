@@ -1,5 +1,5 @@
--- The budget of steps before an event is enough: behind them no instant is due before the event's time. Each grant takes a standing request and makes the
--- line busy, and each rest ends a busy line, so the budget falls at each; where it is 0 nothing is due.
+-- The budget of steps before an event is enough: behind them no instant is due before the event's time. Each grant takes a standing
+-- request and makes the line busy, and each rest ends a busy line, so the budget falls at each; where it is 0 nothing is due.
 use Prim.Native.Nat.{ℕ, zero, suc, _+_, _≤_}
 use mathlib.Core.Path.{_≡_, refl, ap, subst}
 use mathlib.Core.Bool.{Bool, true, false, _||_}

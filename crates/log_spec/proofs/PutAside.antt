@@ -1,5 +1,5 @@
--- Bytes put aside for lines to come: 76 for each standing request, which are 50 of its grant and 26 of the rest that may follow, and 26 while the line is
--- busy. A grant and a rest are paid for by what is aside, and only a taken event puts 76 more there.
+-- Bytes put aside for lines to come: 76 for each standing request, which are 50 of its grant and 26 of the rest that may follow,
+-- and 26 while the line is busy. A grant and a rest are paid for by what is aside, and only a taken event puts 76 more there.
 use Prim.Native.Nat.{ℕ, _+_, _*_, _≤_, _<_}
 use mathlib.Core.Path.{_≡_, refl, ap}
 use mathlib.Core.Bool.{Bool, true, false}
@@ -82,7 +82,8 @@ module _ (p : Plan) (drawn : Drawn p) (calls : List Call) where
   fine = good p (drawn .figures) (control p) (control-follows p drawn) (drawn .some-node) calls
 
   module _ (t d : ℕ) (i : InTime (here .core) t) (e : due p (here .core) ≡ at d) (l : d < t) where
-    -- a grant with its line takes no more than was aside: s is below 10^15, k at most 256, end at most s + 12,000 + 50,000, moves at most 4 × 4
+    -- a grant with its line takes no more than was aside: s is below 10^15, k
+    -- at most 256, end at most s + 12,000 + 50,000, moves at most 4 × 4
     module _ (c : Class) (n : sought p (come d) ≡ class c) where
       abbrev granted : Outcome Control
       granted = grantTo p (control p) d c (come d) (control p .choose c (countsIn c (come d)) (here .turn))

@@ -1,4 +1,5 @@
--- What a refused plan's answer names: a line that 64 bits can count, and a row of 1 to 3. So its line in the log is short, whatever the text is.
+-- What a refused plan's answer names: a line that 64 bits can count, and a
+-- row of 1 to 3. So its line in the log is short, whatever the text is.
 use Prim.Native.Nat.{ℕ, _+_, _<_, _^_}
 use mathlib.Core.Bool.{Bool, true, false, _&&_}
 use mathlib.Core.List.{List, [], _∷_}

@@ -1,5 +1,5 @@
--- A pass over the lent tables and the lent buffer writes, or measures, the log of the text: it answers as writing the log's lines one by one does, and leaves
--- the same buffer.
+-- A pass over the lent tables and the lent buffer writes, or measures, the log of the text:
+-- it answers as writing the log's lines one by one does, and leaves the same buffer.
 use Prim.Native.Nat.{ℕ, suc}
 use mathlib.Core.Path.{_≡_, refl, subst}
 use mathlib.Core.Bool.{Bool}

@@ -1,5 +1,5 @@
--- A pass over one text as it goes over the lent tables and the lent buffer: each line is written whole, or only measured, and the pass ends at the first
--- that doesn't fit.
+-- A pass over one text as it goes over the lent tables and the lent buffer: each line is
+-- written whole, or only measured, and the pass ends at the first that doesn't fit.
 use Prim.Native.Nat.{ℕ, zero, suc, _+_, _*_}
 use mathlib.Core.Bool.{Bool, true, false}
 use mathlib.Core.List.{List, [], _∷_}

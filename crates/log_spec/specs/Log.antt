@@ -35,8 +35,8 @@ eventLine number (grant s k c end moves) = []
 eventLine number (rest s moves) = []
 eventLine number quiet = []
 
--- how many steps can come before the next event: twice the standing requests, and one more while the line is busy. Each grant takes a request, and each
--- rest the busy line, so no step is left out
+-- how many steps can come before the next event: twice the standing requests, and one more while the
+-- line is busy. Each grant takes a request, and each rest the busy line, so no step is left out
 abbrev pub stands : Request → ℕ
 stands core.none = 0
 stands (standing c b) = 1

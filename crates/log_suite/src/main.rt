@@ -1,4 +1,5 @@
-// Reads texts on standard input, 1,048,576 bytes at most, with a byte 0 between one and the next, and writes the log of each with a line `--` behind it.
+// Reads texts on standard input, 1,048,576 bytes at most, with a byte 0 between
+// one and the next, and writes the log of each with a line `--` behind it.
 use cells::Cascade;
 use libc::STDIN_FILENO;
 use libc::STDOUT_FILENO;

@@ -1,4 +1,5 @@
--- The whole plan by the scanner: the three figures and the root's `(hub` at cursors, then the hub reader. It reads what `reading` of Reading reads;
+-- The whole plan by the scanner: the three figures and the root's `(hub` at
+-- cursors, then the hub reader. It reads what `reading` of Reading reads;
 -- that is proved in proofs/.
 use Prim.Native.Nat.{ℕ, _+_, _-_}
 use mathlib.Core.Bool.{_&&_}

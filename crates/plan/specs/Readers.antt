@@ -1,5 +1,6 @@
--- The hub reader and the port reader, which call each other, with levels and lines left falling. They read what `hubLines` of Reading reads; that is
--- proved in proofs/. `levels` is how many levels may still stand below the hub being read, `left` bounds the lines that are left.
+-- The hub reader and the port reader, which call each other, with levels and lines left falling.
+-- They read what `hubLines` of Reading reads; that is proved in proofs/. `levels` is how many
+-- levels may still stand below the hub being read, `left` bounds the lines that are left.
 use Prim.Native.Nat.{ℕ, zero, suc, _+_, _-_}
 use mathlib.Core.Bool.{Bool, true, false, _||_}
 use mathlib.Core.List.{List, [], _∷_}

@@ -7,8 +7,8 @@ use lib.ListN.{getD, set, replicate}
 use Rattle.rules.specs.Choice.{if_then_else_}
 use Rattle.rules.specs.Plan as rules
 
--- cells 0 to 4 are T, O, D, N and H; 5 to 7 are kept for later figures. Each hub has 36 cells: how many ports it has, its parent, the port there,
--- its level, and its 32 ports. Each node has 2: its hub and its port.
+-- cells 0 to 4 are T, O, D, N and H; 5 to 7 are kept for later figures. Each hub has 36 cells: how many ports
+-- it has, its parent, the port there, its level, and its 32 ports. Each node has 2: its hub and its port.
 abbrev pub cells : ℕ
 cells = 1672
 

@@ -50,8 +50,8 @@ pub record Holds (p : rules.Plan) (x : rules.Port) (g q : ℕ) : Type 0 where
   pub place : Within (p .ports g) q
   pub port : p .port g q ≡ x
 
--- what later proofs need of any taken plan: its tables are a drawn plan's, with the numbers that the answer tells, and a node's own cells name the one
--- port that holds it
+-- what later proofs need of any taken plan: its tables are a drawn plan's, with the
+-- numbers that the answer tells, and a node's own cells name the one port that holds it
 pub record TakenPlan (cells : List ℕ) (nodes hubs : ℕ) : Type 0 where
   pub plan : Drawn (planOf cells)
   pub nodes-told : planOf cells .nodes ≡ nodes

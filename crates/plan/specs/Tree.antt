@@ -21,7 +21,8 @@ mutual
     close : Hub
     port : Port → Hub → Hub
 
--- The drawing, in front of the lines that follow it. A hub is the line `(hub`, its ports, and the line `)`; `drawHub` draws it from its ports on.
+-- The drawing, in front of the lines that follow it. A hub is the line `(hub`,
+-- its ports, and the line `)`; `drawHub` draws it from its ports on.
 unfoldable mutual
   pub drawPort : Port → Lines → Lines
   drawPort node rest = ended node-word rest
@@ -110,7 +111,8 @@ pub record Filled : Type 0 where
 abbrev pub withTables : List ℕ → Filled → Filled
 withTables t s = record { nodes = s .nodes; hubs = s .hubs; tables = t }
 
--- A tree's tables, numbered in line order: what stands at port q of hub g, which is of level l, and what stands at the ports of hub g behind port q
+-- A tree's tables, numbered in line order: what stands at port q of hub g,
+-- which is of level l, and what stands at the ports of hub g behind port q
 unfoldable mutual
   pub fillPort : Port → ℕ → ℕ → ℕ → Filled → Filled
   fillPort node g q l s =

@@ -21,7 +21,8 @@ pub enum Kind {
     Other,
 }
 
-// A plan is taken, with its numbers of nodes and hubs and where the events start (byte and line number), or refused at a line with a number.
+// A plan is taken, with its numbers of nodes and hubs and where the events
+// start (byte and line number), or refused at a line with a number.
 pub enum Answer {
     Taken {
         nodes: u32,

@@ -1,4 +1,5 @@
--- The search on a rotated mask: the port behind its trailing zeros, rotated back, is the lowest at or after the pointer, unless it has gone round.
+-- The search on a rotated mask: the port behind its trailing zeros, rotated
+-- back, is the lowest at or after the pointer, unless it has gone round.
 use mathlib.Core.Path.{_≡_, sym, ap, ap₂, _∙_}
 use mathlib.Core.Bool.{Bool, true, false, _||_, or-self, or-false}
 use Prim.Native.Nat.{ℕ, zero, suc, _+_, _-_, _*_, _/_, _%_, _^_, _≤_, _<_, max}

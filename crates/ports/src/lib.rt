@@ -63,7 +63,8 @@ pub fn at_or_after(mask: u32, pointer: u32) -> u32
     (mask >> below) << below
 }
 
-// The lowest-numbered port shown at or after `pointer`. The ports are rotated so that the pointer's port is lowest, and the answer is rotated back.
+// The lowest-numbered port shown at or after `pointer`. The ports are rotated
+// so that the pointer's port is lowest, and the answer is rotated back.
 pub fn lowest(mask: u32, pointer: u32) -> Found
     ensures { λ r. ⌜ r ≡ lowestFrom (shows mask) pointer ⌝ }
 {

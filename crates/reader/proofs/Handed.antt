@@ -1,4 +1,5 @@
--- What a reader hands out is what the scanner answers: the answer can be had back from the line's length, its number and the place where the reader was left.
+-- What a reader hands out is what the scanner answers: the answer can be had back
+-- from the line's length, its number and the place where the reader was left.
 -- Assumes nothing.
 use mathlib.Core.Path.{_≡_, refl, sym, ap, _∙_}
 use mathlib.Core.Bool.{Bool, true, false}

@@ -13,7 +13,8 @@ use Rattle.text.specs.declared.Next.the-variants.{Line, Unended, Done}
 use Rattle.reader.specs.declared.Found.{Found}
 use Rattle.reader.specs.declared.Reader.{Reader}
 
--- where the line at a cursor ends, whether its LF was there, and where the next one starts, with its number; where nothing is left the cursor stays
+-- where the line at a cursor ends, whether its LF was there, and where the
+-- next one starts, with its number; where nothing is left the cursor stays
 unfoldable pub found : Cursor → Next → Found
 found c (Line start end number next) = record { end = end; ended = true; at = next .at; number = next .number }
 found c (Unended start end number) = record { end = end; ended = false; at = end; number = nextNumber (c .number) }
@@ -23,7 +24,8 @@ found c (Done number) = record { end = c .at; ended = false; at = c .at; number 
 abbrev pub foundAt : List ℕ → ℕ → ℕ → Found
 foundAt text at number = found (record { at = at; number = number }) (nextLine text (record { at = at; number = number }))
 
--- the bytes of a lent text from one place to another, as they stand in it: the same memory, nothing copied. What lies behind the text's end is not there
+-- the bytes of a lent text from one place to another, as they stand in it: the
+-- same memory, nothing copied. What lies behind the text's end is not there
 abbrev pub PartOf : RefT (List ℕ) → ℕ → ℕ → RefT (List ℕ) → Type 0
 PartOf text start end r = (now r ≡ part (now text) start end) × (r .ptr .0 ≡ text .ptr .0) × (r .ptr .1 ≡ min start (length (now text)) + text .ptr .1)
 
@@ -35,7 +37,8 @@ ahead r = foundAt (now (r .text)) (r .at) (r .number)
 abbrev pub movedOn : Reader → Reader
 movedOn r = record { text = r .text; at = ahead r .at; number = ahead r .number }
 
--- the scanner's answer at a place, by the length of the line that was handed out there, its number, whether its LF was there, and where the reader was left
+-- the scanner's answer at a place, by the length of the line that was handed out
+-- there, its number, whether its LF was there, and where the reader was left
 unfoldable pub answerOf : ℕ → ℕ → ℕ → Bool → Cursor → Next
 answerOf at n number true next = Line at (at + n) number next
 answerOf at zero number false next = Done number

@@ -1,5 +1,7 @@
-// The line reader: it holds the lent text, the place of the next line and that line's number, and hands out one line at a time as the part of the text itself.
-// The scanner is `text`'s; the functions over `Reader` are thin and proved by hand, and `line_at` serves whoever has a plain text and two numbers.
+// The line reader: it holds the lent text, the place of the next line and that
+// line's number, and hands out one line at a time as the part of the text itself.
+// The scanner is `text`'s; the functions over `Reader` are thin and proved
+// by hand, and `line_at` serves whoever has a plain text and two numbers.
 use text::Cursor;
 use text::Next;
 ghost use mathlib.Core.Path.{_≡_};
@@ -21,7 +23,8 @@ pub struct Line<'a> {
     pub ended: bool,
 }
 
-// What the scanner found at a place, in plain numbers: where the line ends, whether with LF, and where the next one starts, with its number.
+// What the scanner found at a place, in plain numbers: where the line
+// ends, whether with LF, and where the next one starts, with its number.
 pub struct Found {
     pub end: usize,
     pub ended: bool,
@@ -106,7 +109,8 @@ pub fn next<'s, 'a>(r: &'s mut Reader<'a>) -> Line<'a>
     }
 }
 
-// The scanner's answer at a place, by the length of the line that was handed out there, its number, whether its LF was there, and where the reader was left.
+// The scanner's answer at a place, by the length of the line that was handed out
+// there, its number, whether its LF was there, and where the reader was left.
 fn told(at: usize, length: usize, number: usize, ended: bool, place: usize, line: usize) -> Next
     requires { ⌜ at + length < 2 ^ 64 ⌝ }
     ensures { λ r. ⌜ r ≡ answerOf at length number ended (record { at = place; number = line }) ⌝ }

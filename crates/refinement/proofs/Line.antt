@@ -1,4 +1,5 @@
--- The hubs that node k stands in: its own hub and those above it. A change of what counts at k alone changes what they see, each at one port, and no other hub.
+-- The hubs that node k stands in: its own hub and those above it. A change of what
+-- counts at k alone changes what they see, each at one port, and no other hub.
 use Prim.Native.Nat.{ℕ, zero, suc, _+_, _≤_, _<_}
 use mathlib.Core.Path.{_≡_, refl, sym, ap, _∙_, subst}
 use mathlib.Core.Bool.{Bool, true, false, _&&_}

@@ -1,4 +1,5 @@
--- A node's request changes, or is granted: the core changes there alone, control doesn't, and the masks and the number of standing requests are mended.
+-- A node's request changes, or is granted: the core changes there alone, control
+-- doesn't, and the masks and the number of standing requests are mended.
 use Prim.Native.Nat.{ℕ, _+_, _*_, _≤_, _<_}
 use mathlib.Core.Path.{_≡_, refl, sym, ap, ap₂, subst, _∙_}
 use mathlib.Core.Bool.{Bool, true, false}

@@ -1,4 +1,5 @@
--- What holds of a cascade's cells at every place of a run, beside the hub that they are: the masks are right, and so is the number of standing requests.
+-- What holds of a cascade's cells at every place of a run, beside the hub that
+-- they are: the masks are right, and so is the number of standing requests.
 use Prim.Native.Nat.{ℕ, _≤_}
 use mathlib.Core.Path.{_≡_}
 use mathlib.Core.Bool.{Bool, true, false, _&&_}
@@ -18,7 +19,8 @@ use Rattle.cells.specs.Layout.{cells, standing-cell, holder-cell, class-cell, m
 use Rattle.cells.specs.Decode.{planIn, coreOf}
 use Rattle.cells.specs.Masks.{stands}
 
--- what the theorems ask of a plan's cells: they are a drawn plan's, the root has no parent, and a node's own cells name the one port that holds it
+-- what the theorems ask of a plan's cells: they are a drawn plan's, the root
+-- has no parent, and a node's own cells name the one port that holds it
 pub record Ready (P : List ℕ) : Type 0 where
   pub drawn : Drawn (planIn P)
   pub root-parent : getD P (plan.hubCell 1 1) 0 ≡ 0

@@ -60,7 +60,8 @@ fn counts(high: bool, x: u32, granted: u32, force: u32) -> bool
     x < 131072
 }
 
-// Port q of hub g shows in each class a request or none: its bits are put, and so are the hub's own in its parent, up to the root, which has no parent.
+// Port q of hub g shows in each class a request or none: its bits are put, and
+// so are the hub's own in its parent, up to the root, which has no parent.
 fn mend_both(p: &Plan, s: &mut Cascade, g: u32, q: u32, normal: bool, high: bool, levels: u32)
     ensures { λ _. ⌜ now (s .exit) ≡ mend (now (p .entry)) true levels g q high (mend (now (p .entry)) false levels g q normal (now (s .entry))) ⌝ }
 {

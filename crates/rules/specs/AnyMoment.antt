@@ -1,5 +1,5 @@
--- Request 5 of document 02, "Any moment, not only a frame's start": how long one high request can wait, as one claim about a list of calls and answers, the latest
--- first. No state is mentioned.
+-- Request 5 of document 02, "Any moment, not only a frame's start": how long one high request can
+-- wait, as one claim about a list of calls and answers, the latest first. No state is mentioned.
 use Prim.Native.Nat.{ℕ, _+_, _≤_, _<_}
 use mathlib.Core.Path.{_≡_}
 use mathlib.Core.Bool.{Bool, true, false, not, _&&_, _||_}
@@ -106,7 +106,8 @@ module _ (p : Plan) (k t : ℕ) (whole : List Entry) where
     pub left : length (highGrants p k (frameOf p t) before) < packetsThen
     -- it is kept standing
     pub stands : keptStanding k since ≡ true
-    -- no change comes into force: in each frame from the request's up to the last one of the wait, every node has reserved what it has in the request's
+    -- no change comes into force: in each frame from the request's up to the last
+    -- one of the wait, every node has reserved what it has in the request's
     pub unchanged : (j f : ℕ) → Within (p .nodes) j → frameOf p t ≤ f → f ≤ lastFrame since
         → reserved p j f whole ≡ reserved p j (frameOf p t) whole
 
@@ -116,6 +117,7 @@ module _ (p : Plan) (k t : ℕ) (whole : List Entry) where
     pub is : firstGrant k since ≡ granted high time
     pub soon : time ≤ latestGrant
 
--- Over a list of calls, with the steps run that far: the clock is above the limit, or the last call is a step with a bound above it, answered quiet
+-- Over a list of calls, with the steps run that far: the clock is above the
+-- limit, or the last call is a step with a bound above it, answered quiet
 pub record AnyMoment (p : Plan) (whole : List Entry) : Type 0 where
   pub served : (k t : ℕ) (request : PutUp p k t whole) → RunTo (farEnough p k t whole) whole → Served p k t whole (request .since)

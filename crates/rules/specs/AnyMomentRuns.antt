@@ -1,5 +1,6 @@
--- Lists worked out by hand for request 5 of document 02, on document 01's plan: two in which the request waits just as long as it may, in one of them over a frame's
--- start; one in which other nodes ask again and again; and five in which one premise fails, and the grant comes too late, not at all, or in class normal.
+-- Lists worked out by hand for request 5 of document 02, on document 01's plan: two in which the request
+-- waits just as long as it may, in one of them over a frame's start; one in which other nodes ask again and
+-- again; and five in which one premise fails, and the grant comes too late, not at all, or in class normal.
 use Prim.Native.Nat.{ℕ, _+_, _-_}
 use mathlib.Core.Path.{_≡_}
 use mathlib.Core.Bool.{Bool, true, false, not, _&&_, _||_}
@@ -89,8 +90,8 @@ putUp x = record { call = ask high (x .time) (x .node) (x .bits); answer = taken
 abbrev pub reserves : List Call
 reserves = reserve 0 1 1 4000 ∷ reserve 0 2 1 3000 ∷ reserve 0 3 1 2000 ∷ reserve 0 4 2 512 ∷ []
 
--- Within a frame: at 150,000 a normal packet of 12,000 has just begun, and nodes 1, 2 and 3 go before node 4. 150,000 + 13,000 + 5,000 + 4,000 + 3,000. That node 1
--- gives its packet up from frame 2 on makes no difference
+-- Within a frame: at 150,000 a normal packet of 12,000 has just begun, and nodes 1, 2 and 3 go before node 4.
+-- 150,000 + 13,000 + 5,000 + 4,000 + 3,000. That node 1 gives its packet up from frame 2 on makes no difference
 abbrev pub full-wait : Worked
 full-wait =
     record {
@@ -119,8 +120,9 @@ full-wait =
           };
     }
 
--- Over a frame's start: node 4 has had one of its two packets in frame 1, and node 1 its only one. So node 1's next request is held; in frame 2, where it counts
--- from 0 anew, it goes before node 4 all the same. 195,000 + 13,000 + 5,000 + 4,000 + 3,000. Behind its grant node 4 asks for its next one
+-- Over a frame's start: node 4 has had one of its two packets in frame 1, and node 1 its only one. So
+-- node 1's next request is held; in frame 2, where it counts from 0 anew, it goes before node 4 all the
+-- same. 195,000 + 13,000 + 5,000 + 4,000 + 3,000. Behind its grant node 4 asks for its next one
 abbrev pub full-wait-across : Worked
 full-wait-across =
     record {
@@ -152,8 +154,8 @@ full-wait-across =
           };
     }
 
--- Nodes 2 and 3 ask again behind each of their grants, in frame 1 and in frame 2, and have packets left in both. Each goes before node 1 once all the same: the pointer
--- goes round once
+-- Nodes 2 and 3 ask again behind each of their grants, in frame 1 and in frame 2, and have
+-- packets left in both. Each goes before node 1 once all the same: the pointer goes round once
 abbrev pub passed-once : Worked
 passed-once =
     record {

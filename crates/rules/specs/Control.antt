@@ -12,7 +12,8 @@ pub record Pointer : Type 0 where
   pub port : ℕ
   pub marked : Bool
 
--- which hub has control, the class of the latest grant (before the first one control is at the root, so none is needed), and each hub's pointers
+-- which hub has control, the class of the latest grant (before the first
+-- one control is at the root, so none is needed), and each hub's pointers
 pub record Control : Type 0 where
   pub holder : ℕ
   pub latest : Class
@@ -28,7 +29,8 @@ marking q = record { port = q; marked = true }
 abbrev pub atFirst : Control
 atFirst = record { holder = 1; latest = normal; pointer = λ c g. atPort 1 }
 
--- "A hub sees of each port only which classes count there or below it": of one class, whether a node that counts stands in hub g or below it
+-- "A hub sees of each port only which classes count there or below it":
+-- of one class, whether a node that counts stands in hub g or below it
 module _ (p : Plan) (f : ℕ → Bool) where
   abbrev pub seen : (ℕ → Bool) → Port → Bool
   seen below (node k) = f k
@@ -67,8 +69,8 @@ granted c σ = record { holder = σ .holder; latest = c; pointer = σ .pointer }
 abbrev pub climb : Plan → ℕ → ℕ
 climb p g = p .level g - 1
 
--- rule 3, a hub h found at port q: the pointer is that port, marked, and control goes down. h resumes if that port was the pointer's own and
--- was marked; otherwise it starts afresh at port 1
+-- rule 3, a hub h found at port q: the pointer is that port, marked, and control goes down. h
+-- resumes if that port was the pointer's own and was marked; otherwise it starts afresh at port 1
 abbrev pub down : Class → ℕ → ℕ → Control → Control
 down c q h σ =
     let here = σ .pointer c (σ .holder) in
@@ -128,7 +130,8 @@ nearest p P (suc l) g = if led p P most-levels g then g else nearest p P l (p .p
 abbrev pub turning : Plan → Class → Control → ℕ
 turning p c σ = nearest p (σ .pointer c) most-levels (σ .holder)
 
--- rule 2, as request 4 of document 02 has it: where the class sought differs from that of the latest grant, control goes up to that hub first
+-- rule 2, as request 4 of document 02 has it: where the class sought differs
+-- from that of the latest grant, control goes up to that hub first
 unfoldable pub chooseBy : Plan → Class → (ℕ → Bool) → Control → Turn Control
 chooseBy p c f σ =
     if same c (σ .latest) then walk p c f most-looks σ 0

@@ -1,4 +1,5 @@
--- What a hub holds whatever way it gives turns: clock, line, requests, reservations, high grants. "Events" (frames) and "Selection" (instants).
+-- What a hub holds whatever way it gives turns: clock, line, requests,
+-- reservations, high grants. "Events" (frames) and "Selection" (instants).
 use Prim.Native.Nat.{ℕ, _+_, _*_, _/_}
 use mathlib.Core.Bool.{Bool, true, false, not, _&&_, _||_}
 use lib.Dec.{ltb, leb, eqb}

@@ -1,4 +1,5 @@
--- What holds of the tables of every plan that is taken: its figures and its drawing, in line order. The theorems ask nothing else of a plan.
+-- What holds of the tables of every plan that is taken: its figures and
+-- its drawing, in line order. The theorems ask nothing else of a plan.
 use Prim.Native.Nat.{ℕ, _+_, _≤_, _<_}
 use mathlib.Core.Path.{_≡_}
 use Rattle.rules.specs.Plan.{Plan, Port, node, empty, hub, longest, most-hubs, most-ports, most-nodes, most-levels}
@@ -24,8 +25,8 @@ pub record Hung (p : Plan) (g q h : ℕ) : Type 0 where
   pub place : p .place h ≡ q
   pub level : p .level h ≡ p .level g + 1
 
--- `above g q` nodes stand in line order above port q of hub g. What port q adds: a node is the next number, an empty port adds none, and a hub's own ports
--- go on from there
+-- `above g q` nodes stand in line order above port q of hub g. What port q adds: a node
+-- is the next number, an empty port adds none, and a hub's own ports go on from there
 abbrev pub Covers : Plan → (ℕ → ℕ → ℕ) → ℕ → ℕ → Port → Type 0
 Covers p above g q (node k) = (k ≡ above g q + 1) × (above g (q + 1) ≡ above g q + 1)
 Covers p above g q empty = above g (q + 1) ≡ above g q

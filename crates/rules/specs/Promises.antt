@@ -1,4 +1,5 @@
--- What the hub promises at every place of a run: no time is lost, admission keeps what it granted, and an event is taken exactly where it is acceptable.
+-- What the hub promises at every place of a run: no time is lost, admission
+-- keeps what it granted, and an event is taken exactly where it is acceptable.
 use Prim.Native.Nat.{ℕ, _+_, _*_, _≤_, _<_}
 use mathlib.Core.Path.{_≡_}
 use mathlib.Core.Bool.{Bool, true, false}
@@ -69,7 +70,8 @@ pub record OnTime (p : Plan) (s : Core) (t : ℕ) : Type 0 where
   pub late : s .clock ≤ t
   pub not-due : (d : ℕ) → due p s ≡ at d → t ≤ d
 
--- a normal or high request of a node of the plan, with its length in range; a high one with n in force at t at least 1, and b at most the b in force
+-- a normal or high request of a node of the plan, with its length in range; a
+-- high one with n in force at t at least 1, and b at most the b in force
 pub record Askable (p : Plan) (s : Core) (c : Class) (t k b : ℕ) : Type 0 where
   pub time : OnTime p s t
   pub node : Within (p .nodes) k

@@ -27,7 +27,8 @@ pub record Shown (x : Slip) : Type 0 where
   pub wrong : x .wrong (x .calls) ≡ x .wrong-answers
   pub differ : x .right-answers ≡ x .wrong-answers → ⊥
 
--- "A pointer moved by a look that granted nothing". Rule 1, that pointers stay at a rest, is wrong: this hub looks for a port by rules 3 and 4 all the same.
+-- "A pointer moved by a look that granted nothing". Rule 1, that pointers stay at
+-- a rest, is wrong: this hub looks for a port by rules 3 and 4 all the same.
 abbrev pub looking : Plan → Control → Rest Control
 looking p σ =
     let looked = walk p (σ .latest) (λ k. false) most-looks σ 0 in
@@ -36,8 +37,8 @@ looking p σ =
 abbrev pub restless : Plan → Machine
 restless p = record { State = Control; start = atFirst; choose = chooseBy p; rested = looking p }
 
--- "A lower hub always started afresh, or always resumed". The end of rule 3 is wrong: `own` says whether the port was the pointer's own and was marked,
--- which is when the lower hub resumes, and these hubs resume by `resumes` of it.
+-- "A lower hub always started afresh, or always resumed". The end of rule 3 is wrong: `own` says whether the port was
+-- the pointer's own and was marked, which is when the lower hub resumes, and these hubs resume by `resumes` of it.
 module _ (resumes : Bool → Bool) (p : Plan) (c : Class) (f : ℕ → Bool) where
   abbrev pub downBy : ℕ → ℕ → Control → Control
   downBy q h σ =
@@ -78,7 +79,8 @@ answersBy performs h (call ∷ calls) =
     let o = performs call h in
     o .answer ∷ answersBy performs (o .hub) calls
 
--- "A reservation in force in the frame of its request". The event reserve is wrong: the latest accepted are in force at once, not from the next frame on.
+-- "A reservation in force in the frame of its request". The event reserve is
+-- wrong: the latest accepted are in force at once, not from the next frame on.
 abbrev pub at-once : Core → Core
 at-once s =
     record {
@@ -105,8 +107,8 @@ highTime p f (grant s k high end moves ∷ later) = (if eqb (frameOf p s) f then
 highTime p f (rest s moves ∷ later) = highTime p f later
 highTime p f (quiet ∷ later) = highTime p f later
 
--- "Held requests shown upward as high". The class sought is wrong: it is high while any high request stands, held or not, so that meanwhile no normal one
--- is seen. The hub is the right one but for what it `sees` of its core when it asks what is due and what is sought.
+-- "Held requests shown upward as high". The class sought is wrong: it is high while any high request stands, held or not, so that meanwhile
+-- no normal one is seen. The hub is the right one but for what it `sees` of its core when it asks what is due and what is sought.
 abbrev pub held-as-high : Plan → Core → Core
 held-as-high p s =
     record {
@@ -203,7 +205,8 @@ narrow =
       level = plan01 .level;
     }
 
--- node 1 has spent its share, gives it up, and node 2 is let in; then node 2 does so, and node 3 is let in: three packets in a frame that holds one
+-- node 1 has spent its share, gives it up, and node 2 is let in; then node 2
+-- does so, and node 3 is let in: three packets in a frame that holds one
 abbrev pub overfilled : Slip
 overfilled =
     record {
@@ -223,7 +226,8 @@ overfilled =
           ∷ taken ∷ taken ∷ taken ∷ grant 186000 3 high 229000 0 ∷ [];
     }
 
--- node 3 has spent its share and asks for more: meanwhile node 1's normal request is granted; where the held one is shown as high, the line rests
+-- node 3 has spent its share and asks for more: meanwhile node 1's normal
+-- request is granted; where the held one is shown as high, the line rests
 abbrev pub normal-stopped : Slip
 normal-stopped =
     record {

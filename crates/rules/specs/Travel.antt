@@ -1,4 +1,5 @@
--- Request 13 of document 02, "A round's travel": how far control travels in a run of grants of one class, by how often the root's pointer returns to port 1.
+-- Request 13 of document 02, "A round's travel": how far control travels in a run
+-- of grants of one class, by how often the root's pointer returns to port 1.
 use Prim.Native.Nat.{ℕ, zero, suc, _+_, _-_, _*_, _≤_}
 use mathlib.Core.Path.{_≡_}
 use mathlib.Core.Bool.{Bool, true, false, _&&_}
@@ -13,8 +14,8 @@ use Rattle.rules.specs.Control.{Control, atPort, lowest, point, handTo, 
 use Rattle.rules.specs.Run.{Entry, made}
 use Rattle.rules.specs.Agree.{movesOf}
 
--- Returns of the root's pointer to port 1, look by look beside the walk: `takeReturns`, `handUpReturns`, `lookReturns` and `walkReturns` have one case for each
--- case of `take`, `handUp`, `lookAt` and `walk`
+-- Returns of the root's pointer to port 1, look by look beside the walk: `takeReturns`, `handUpReturns`,
+-- `lookReturns` and `walkReturns` have one case for each case of `take`, `handUp`, `lookAt` and `walk`
 module _ (p : Plan) (c : Class) (f : ℕ → Bool) where
   -- rule 3 at port q: a node ends the walk, at a hub it goes on
   abbrev pub takeReturns : (Control → ℕ) → Control → ℕ → Port → ℕ
@@ -37,7 +38,8 @@ module _ (p : Plan) (c : Class) (f : ℕ → Bool) where
   walkReturns zero σ = 0
   walkReturns (suc looks) σ = lookReturns (walkReturns looks) σ (lowest p f (σ .holder) (σ .pointer c (σ .holder) .port))
 
--- in a turn of class c, beside `chooseBy`: its walk starts at the holder or, where the class differs from that of the latest grant, where control turns
+-- in a turn of class c, beside `chooseBy`: its walk starts at the holder or,
+-- where the class differs from that of the latest grant, where control turns
 unfoldable pub chooseReturns : Plan → Class → (ℕ → Bool) → Control → ℕ
 chooseReturns p c f σ =
     if same c (σ .latest) then walkReturns p c f most-looks σ
@@ -122,7 +124,8 @@ unfoldable pub rounds : List Entry → List Entry → ℕ
 rounds before [] = 0
 rounds before (e ∷ since) = rounds before since + roundBy (latestNode (since ++ before)) (e .answer)
 
--- Of every run: the moves after its first grant are at most those, by the returns in the steps behind that grant; and these returns can be read off the answers
+-- Of every run: the moves after its first grant are at most those, by the returns
+-- in the steps behind that grant; and these returns can be read off the answers
 pub record Travels (p : Plan) (whole : List Entry) : Type 0 where
   pub few : (c : Class) (r : RunOfGrants c whole) → travel (r .since) ≤ farthest p (returns p (r .first ∷ r .before) (r .since))
   pub read-off : (c : Class) (r : RunOfGrants c whole) → returns p (r .first ∷ r .before) (r .since) ≡ rounds (r .first ∷ r .before) (r .since)

@@ -1,5 +1,5 @@
--- Runs worked out by hand for request 13 of document 02: three that travel as far as a run may, one that doesn't, and two lists that travel farther, since in one
--- there is a rest between, and in the other a grant of the other class.
+-- Runs worked out by hand for request 13 of document 02: three that travel as far as a run may, one that doesn't, and
+-- two lists that travel farther, since in one there is a rest between, and in the other a grant of the other class.
 use Prim.Native.Nat.{ℕ}
 use mathlib.Core.Path.{_≡_}
 use mathlib.Core.Bool.{Bool, true, false, _&&_}
@@ -12,8 +12,8 @@ use Rattle.rules.specs.Run.{Entry, made, answers}
 use Rattle.rules.specs.Travel.{returns, rounds, travel, grantsIn, unbroken, farthest}
 use Rattle.rules.specs.Sample.{plan01}
 
--- what is worked out of a list of calls: the answers; of the calls behind the first grant, whether they and it are a run of grants, their moves, the returns of
--- the root's pointer, and these as the answers tell them; and how far a run with so many returns may travel
+-- what is worked out of a list of calls: the answers; of the calls behind the first grant, whether they and it are a run of grants, their
+-- moves, the returns of the root's pointer, and these as the answers tell them; and how far a run with so many returns may travel
 pub record Figures : Type 0 where
   pub told : List Answer
   pub is-run : Bool
@@ -75,7 +75,8 @@ nested =
       level = λ g. getD (0 ∷ 1 ∷ 2 ∷ 3 ∷ []) g 0;
     }
 
--- from node 1 to node 5, down into both lower hubs and out of them again: 2 × 2 × 1. An event between is taken, one is refused, and a step is quiet
+-- from node 1 to node 5, down into both lower hubs and out of them again: 2 ×
+-- 2 × 1. An event between is taken, one is refused, and a step is quiet
 abbrev pub one-round : Worked
 one-round =
     record {
@@ -196,7 +197,8 @@ with-a-rest =
           };
     }
 
--- behind it node 4's high request takes control up to the root, and node 3's normal one down again; the answers would tell a return where there was none
+-- behind it node 4's high request takes control up to the root, and node 3's
+-- normal one down again; the answers would tell a return where there was none
 abbrev pub with-the-other-class : Worked
 with-the-other-class =
     record {

@@ -1,4 +1,5 @@
--- Wrong hubs, each wrong in one part of rule 2 as request 4 of document 02 has it, and for each a run on which it answers otherwise than the right hub.
+-- Wrong hubs, each wrong in one part of rule 2 as request 4 of document 02 has
+-- it, and for each a run on which it answers otherwise than the right hub.
 use Prim.Native.Nat.{ℕ, zero, suc, _-_}
 use mathlib.Core.Bool.{Bool, true, false, _&&_}
 use mathlib.Core.List.{List, [], _∷_}
@@ -13,8 +14,8 @@ use Rattle.rules.specs.Run.{answers}
 use Rattle.rules.specs.Sample.{plan01}
 use Rattle.rules.specs.Slips.{Slip}
 
--- the parts: whether a pointer leads on, by whether it is on the line and whether it is marked; of which hub it is asked, for hub g, whether every hub above
--- leads to it; and up to which hub moves are counted where control turns at hub t
+-- the parts: whether a pointer leads on, by whether it is on the line and whether it is marked; of which hub it is asked,
+-- for hub g, whether every hub above leads to it; and up to which hub moves are counted where control turns at hub t
 pub record Rule2 : Type 0 where
   pub leads : Bool → Bool → Bool
   pub asked : Plan → ℕ → ℕ
@@ -59,8 +60,8 @@ module _ (r : Rule2) (p : Plan) where
         rested = restedBy p;
       }
 
--- The runs. On document 01's plan node 1 has its turn behind node 2, so the root's normal pointer stands at the lower hub, not marked: it is entered afresh, and
--- node 2 goes before node 3. Turned in the lower hub itself it goes on behind node 2.
+-- The runs. On document 01's plan node 1 has its turn behind node 2, so the root's normal pointer stands at the lower hub,
+-- not marked: it is entered afresh, and node 2 goes before node 3. Turned in the lower hub itself it goes on behind node 2.
 abbrev pub unmarked : Rule2 → Slip
 unmarked r =
     record {

@@ -1,4 +1,5 @@
--- The words of "Demand 3 over a list of calls". Each is read off the calls and their answers alone: `past` is what stands before a place, the latest first.
+-- The words of "Demand 3 over a list of calls". Each is read off the calls and
+-- their answers alone: `past` is what stands before a place, the latest first.
 use Prim.Native.Nat.{ℕ, _+_, _*_, _≤_, _<_, min}
 use mathlib.Core.Path.{_≡_}
 use mathlib.Core.Bool.{Bool, true, false, _&&_}
@@ -83,8 +84,8 @@ pub record Keeps (r : Share) (b : ℕ) : Type 0 where
   pub some : 1 ≤ r .packets
   pub fits : b ≤ r .bits
 
--- k's request is high at a place: a high event put it up while k's n in force was at least 1, and no frame start since, up to the clock, made it
--- normal
+-- k's request is high at a place: a high event put it up while k's n in force
+-- was at least 1, and no frame start since, up to the clock, made it normal
 pub record High (p : Plan) (k : ℕ) (past : List Entry) : Type 0 where
   pub put-up : ℕ
   pub length : ℕ
@@ -134,7 +135,8 @@ quietTo bound (off t j) answer = false
 quietTo bound (reserve t j n b) answer = false
 quietTo bound (until t) answer = false
 
--- the delay limit of node k in a frame by the reservations r in force: D + n × c of k + the sum over every other node j of min(n, n of j) × c of j
+-- the delay limit of node k in a frame by the reservations r in force: D + n
+-- × c of k + the sum over every other node j of min(n, n of j) × c of j
 abbrev pub delayPart : Plan → ℕ → (ℕ → Share) → ℕ → ℕ
 delayPart p k r j =
     if eqb j k then load p (r k)

@@ -1,5 +1,5 @@
--- What `numberAt` answers, by the run of digits that stands at the place: none, a zero alone, a zero with a digit behind it, or another digit and
--- then at most 15 more. Assumes nothing.
+-- What `numberAt` answers, by the run of digits that stands at the place: none, a zero alone, a
+-- zero with a digit behind it, or another digit and then at most 15 more. Assumes nothing.
 use mathlib.Core.Path.{_≡_, refl}
 use mathlib.Core.Bool.{Bool, true, false, cond}
 use mathlib.Core.List.{List, [], _∷_}

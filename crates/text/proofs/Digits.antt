@@ -1,5 +1,5 @@
--- The decimal digits of a number: one digit below 10, else the digits of the tenth part and then the last one. Read as a value they give the
--- number again, none of them leads with a zero, and 10 ^ k is where they become more than k. Assumes nothing.
+-- The decimal digits of a number: one digit below 10, else the digits of the tenth part and then the last one. Read as a value
+-- they give the number again, none of them leads with a zero, and 10 ^ k is where they become more than k. Assumes nothing.
 use mathlib.Core.Path.{_≡_, refl, sym, ap, _∙_}
 use mathlib.Core.Bool.{Bool, true, false, not, false≢true}
 use mathlib.Core.List.{List, [], _∷_, _++_, append-nil}

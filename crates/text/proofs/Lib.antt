@@ -1,4 +1,5 @@
--- Laws about the definitions of specs/, in a file for each: Parts, Lines, Words, Numbers (with Digits) and Forms are what later crates cite.
+-- Laws about the definitions of specs/, in a file for each: Parts, Lines,
+-- Words, Numbers (with Digits) and Forms are what later crates cite.
 -- The other files serve the proofs of this crate's functions.
 pub mod Parts
 pub mod Lines

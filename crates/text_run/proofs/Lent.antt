@@ -1,6 +1,8 @@
--- One pass of the run lends what it holds to `proceed` and has it back: the cascade's table and the buffer are lent again for a lifetime ν of the call, the plan and the line are shared.
+-- One pass of the run lends what it holds to `proceed` and has it back: the cascade's table and
+-- the buffer are lent again for a lifetime ν of the call, the plan and the line are shared.
 --     lends          what is held gives what `proceed` asks, and `Kept`
---     comes-back     what `proceed` leaves, with `Kept`, gives how the run goes on, the table and the buffer at their last values, and all tokens again
+--     comes-back     what `proceed` leaves, with `Kept`, gives how the run goes
+--     on, the table and the buffer at their last values, and all tokens again
 -- Assumes `Given`.
 use mathlib.Core.Path.{_≡_, refl, sym}
 use Prim.Native.Nat.{ℕ, _<_, _^_}
@@ -134,7 +136,8 @@ module _ {M : Type 1} (𝓤 : URA M) (H : Heap 𝓤) (A : Atoms 𝓤) (W : Given
       move ! (4 ∷ 5 ∷ []) $ use2 W (later (some (λ (δ : GName). ‵ (MutRef (named 1) (ν ∷ []) Cascade .own (at-place (b₂, o₂) δ cells) (vptr b₂ o₂ ∷ [])) ⊛ ‵ (lend.LentAgain Cascade κ₂ (ν ∷ []) q₂ γ₂ b₂ o₂ δ cells)))) (lend.lends-again 𝓤 H A W Cascade (named 2) κ₂ (ν ∷ []) q₂ γ₂ b₂ o₂ (named 1) cells) $ await ! tt $ pick ! (λ δ. split ! $
       move ! (6 ∷ 7 ∷ []) $ use2 W (later (some (λ (ε : GName). ‵ (MutSlice (named 3) (ν ∷ []) u8 .own (at-place (b₃, o₃) ε buffer) (sliceVal (b₃, o₃) (length buffer) ∷ [])) ⊛ ‵ (again.LentAgain u8 κ₃ (ν ∷ []) q₃ γ₃ b₃ o₃ ε buffer)))) (again.lends-again u8 κ₃ (ν ∷ []) q₃ γ₃ b₃ o₃ 𝓤 H A W (named 3) (named 3) buffer) $ await ! tt $ pick ! (λ ε. split ! $
       move ! (8 ∷ []) $ use1 W (‵ Pl ⊛ ‵ Pl) (shr-copy 𝓤 H A W (named 1) κ₁ Plan .twice P (ptr-vals P)) $ split ! $ move ! (8 ∷ []) $ use1 W (‵ Bytes) bytes-out $
-      -- [the part; the plan; the plan; the buffer, lent; what is kept of it; the table, lent; what is kept of it; ν's two tokens; the text's; the plan's]
+      -- [the part; the plan; the plan; the buffer, lent; what is kept of it; the
+      -- table, lent; what is kept of it; ν's two tokens; the text's; the plan's]
       at-once ! $ show ! (λ (ν′ : ℕ). ex 𝓤 (λ (δ′ : GName). ex 𝓤 (λ (ε′ : GName). Asks ν′ δ′ ε′))) ν $ show ! (λ (δ′ : GName). ex 𝓤 (λ (ε′ : GName). Asks ν δ′ ε′)) δ $ show ! (λ (ε′ : GName). Asks ν δ ε′) ε $
       nothing ! $ owned ! usize (Is usize) (uint-makes 𝓤 H A W w64) z _ (refl, z-fits) $ fjoin ! $ move ! (4 ∷ 0 ∷ []) $ fjoin ! $
       owned ! bool (Is bool) (bool-makes 𝓤 H A W) write _ refl $ fjoin ! $ owned ! bool (Is bool) (bool-makes 𝓤 H A W) (l .ended) _ refl $ fjoin ! $ owned ! usize (Is usize) (uint-makes 𝓤 H A W w64) (l .number) _ (refl, number-fits) $ fjoin ! $

@@ -16,7 +16,8 @@ use Rattle.text_run.specs.LinePass.{Ran, lineBy, Passed}
 use Rattle.text_run.proofs.Ran.{ran-same}
 use Rattle.text_run.proofs.PassLaws.{behindLine, passed, fewer, over, onward}
 
--- what a run starts from: the text, the plan's tables, the first event line, the cascade's cells, and the buffer with the place behind what is written
+-- what a run starts from: the text, the plan's tables, the first event line,
+-- the cascade's cells, and the buffer with the place behind what is written
 pub record Origin : Type 0 where
   pub text : List ℕ
   pub plan : List ℕ

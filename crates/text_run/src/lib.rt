@@ -1,5 +1,5 @@
-// The run over one text: the plan is read, then each event behind all steps strictly before it, and the log is written into a lent buffer, all of it or
-// nothing. `run` has no `requires`: what it writes is one definition of the whole log of a text, `log_spec`'s specs/Log.antt.
+// The run over one text: the plan is read, then each event behind all steps strictly before it, and the log is written into a lent buffer,
+// all of it or nothing. `run` has no `requires`: what it writes is one definition of the whole log of a text, `log_spec`'s specs/Log.antt.
 use cells::Cascade;
 use cells::Step;
 use events::Event;
@@ -303,8 +303,8 @@ fn pass(text: &[u8], plan: &mut Plan, s: &mut Cascade, write: bool, buffer: &mut
     }
 }
 
-// Whether the whole log of a text fits into a lent buffer. 18 times 65,536 bytes hold every log (`log-bound` in `log_spec`); of a shorter buffer a pass on
-// tables of its own finds it out, which only measures.
+// Whether the whole log of a text fits into a lent buffer. 18 times 65,536 bytes hold every log (`log-bound`
+// in `log_spec`); of a shorter buffer a pass on tables of its own finds it out, which only measures.
 fn log_fits(text: &[u8], buffer: &mut [u8]) -> bool
     ensures { λ r. ⌜ r ≡ fits (now (buffer .entry)) 0 (logBytes (now (text .entry))) ⌝ }
     ensures { λ r. ⌜ now (buffer .exit) ≡ now (buffer .entry) ⌝ }
@@ -320,8 +320,8 @@ fn log_fits(text: &[u8], buffer: &mut [u8]) -> bool
     }
 }
 
-// The whole log of a text into a lent buffer: the place behind it, or Short where it doesn't fit, and then nothing that is lent changes. A taken plan's tables
-// stand in `plan`, and the cascade's in `s`; a refused plan leaves both as they were.
+// The whole log of a text into a lent buffer: the place behind it, or Short where it doesn't fit, and then nothing that is
+// lent changes. A taken plan's tables stand in `plan`, and the cascade's in `s`; a refused plan leaves both as they were.
 pub fn run(text: &[u8], plan: &mut Plan, s: &mut Cascade, buffer: &mut [u8]) -> Put
     ensures { λ r. ⌜ r ≡ putAnswer (now (buffer .entry)) 0 (logBytes (now (text .entry))) ⌝ }
     ensures { λ r. ⌜ now (buffer .exit) ≡ putBuffer (now (buffer .entry)) 0 (logBytes (now (text .entry))) ⌝ }

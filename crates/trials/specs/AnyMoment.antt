@@ -1,4 +1,5 @@
--- Request 5 of document 02: the waits worked out in `rules`, on document 01's plan as it is read from its text, so that they are waits on a plan that is taken.
+-- Request 5 of document 02: the waits worked out in `rules`, on document 01's plan
+-- as it is read from its text, so that they are waits on a plan that is taken.
 use mathlib.Core.List.{map}
 use Rattle.rules.specs.AnyMomentRuns as rules
 use Rattle.rules.specs.AnyMomentRuns.{Worked, full-wait-across, worked-waits}

@@ -62,7 +62,8 @@ m5-granted = taking plan01 4 2 (reserve 0 3 29 2000 ⟶ taken ∷ [])
 abbrev pub m5-refused : Row
 m5-refused = taking plan01 4 2 (reserve 0 3 29 2001 ⟶ refused 17 ∷ [])
 
--- M6: n = 64 passes row 14 (13,000 + 64 × 1,512 is above 100,000, so the first row to say no is 17), 65 gives 14; n = 0 with b = 512 gives 15
+-- M6: n = 64 passes row 14 (13,000 + 64 × 1,512 is above 100,000, so the
+-- first row to say no is 17), 65 gives 14; n = 0 with b = 512 gives 15
 abbrev pub m6 : Row
 m6 =
     taking plan01 4 2
@@ -71,7 +72,8 @@ m6 =
     ∷ reserve 0 3 0 512 ⟶ refused 15
     ∷ [])
 
--- M7: 512 and 12,000 pass row 15; 511 and 12,001 don't. In a normal request, in a reservation, and in a high request with 12,000 bits in force
+-- M7: 512 and 12,000 pass row 15; 511 and 12,001 don't. In a normal request,
+-- in a reservation, and in a high request with 12,000 bits in force
 abbrev pub m7-normal : Row
 m7-normal =
     taking plan01 4 2
@@ -100,8 +102,8 @@ m7-high =
     ∷ ask high 100000 3 12001 ⟶ refused 15
     ∷ [])
 
--- M8: node 3 reserves one packet of 4,000 in frame 0. High at 100,000 is granted then, 1 move, to 105,000. High again at 100,500: rest at 105,000,
--- 1 move; grant at 200,000, 3 moves
+-- M8: node 3 reserves one packet of 4,000 in frame 0. High at 100,000 is granted then, 1 move,
+-- to 105,000. High again at 100,500: rest at 105,000, 1 move; grant at 200,000, 3 moves
 abbrev pub m8 : Row
 m8 =
     taking plan01 4 2
@@ -113,8 +115,8 @@ m8 =
     ∷ step 300000 ⟶ grant 200000 3 high 205000 3
     ∷ [])
 
--- M9: a step with its bound equal to the due instant: quiet. The instant is the clock, where a request counts; a busy line's end; and the next
--- frame's start, where a request is held. A bound one above it isn't quiet
+-- M9: a step with its bound equal to the due instant: quiet. The instant is the clock, where a request counts; a
+-- busy line's end; and the next frame's start, where a request is held. A bound one above it isn't quiet
 abbrev pub m9 : Row
 m9 =
     taking plan01 4 2
@@ -136,8 +138,8 @@ m10-interrupt = refusing short-interrupt 3 2
 abbrev pub m10-levels : Row
 m10-levels = refusing six-levels 9 3
 
--- M11, for request 4 of document 02, worked out by hand: nodes 1 and 2 stand in hub 3, nodes 3 and 4 in hub 2 above it. a to e are the moves of the last
--- five grants, which by the old rule 2 were others
+-- M11, for request 4 of document 02, worked out by hand: nodes 1 and 2 stand in hub 3, nodes 3 and 4 in
+-- hub 2 above it. a to e are the moves of the last five grants, which by the old rule 2 were others
 abbrev pub three-levels-by : ℕ → ℕ → ℕ → ℕ → ℕ → Row
 three-levels-by a b c d e =
     taking three-levels 5 3

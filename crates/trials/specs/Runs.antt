@@ -1,4 +1,5 @@
--- Whole runs of the program, as document 01's log and the vectors of the same names give them: each event behind the answers of the steps before it.
+-- Whole runs of the program, as document 01's log and the vectors of the same
+-- names give them: each event behind the answers of the steps before it.
 use mathlib.Core.List.{List, [], _∷_}
 use Rattle.rules.specs.Call.{normal, high, ask, off, reserve, until, taken, refused, grant, rest}
 use Rattle.trials.specs.Row.{Row, _⟶_, _before_, running}

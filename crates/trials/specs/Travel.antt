@@ -1,4 +1,5 @@
--- Request 13 of document 02: the runs worked out in `rules`, on plans that are read from their texts, so that they are runs of plans that are taken.
+-- Request 13 of document 02: the runs worked out in `rules`, on plans that
+-- are read from their texts, so that they are runs of plans that are taken.
 use Prim.Native.Nat.{ℕ}
 use mathlib.Core.List.{List, [], _∷_, _++_, map}
 use Rattle.rules.specs.TravelRuns as rules

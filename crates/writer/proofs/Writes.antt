@@ -1,5 +1,5 @@
--- A buffer with bytes written over its own: as long as before, one byte is a store, and bytes written behind bytes are both written at once. A pass
--- that only measures answers the same. Assumes nothing.
+-- A buffer with bytes written over its own: as long as before, one byte is a store, and bytes written
+-- behind bytes are both written at once. A pass that only measures answers the same. Assumes nothing.
 use mathlib.Core.Path.{_≡_, refl, sym, ap, _∙_}
 use mathlib.Core.List.{List, [], _∷_, _++_, append-assoc, append-nil}
 use Prim.Native.Nat.{ℕ, suc, _+_, _-_, _^_, _≤_, _<_}

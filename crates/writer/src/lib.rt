@@ -1,5 +1,5 @@
-// Numbers, words and whole lines written into a lent buffer at a place: all of the bytes, or none. No public function has a `requires`: each says its
-// whole answer and the whole buffer, for every input, by a definition of specs/.
+// Numbers, words and whole lines written into a lent buffer at a place: all of the bytes, or none. No public function
+// has a `requires`: each says its whole answer and the whole buffer, for every input, by a definition of specs/.
 ghost use mathlib.Core.Path.{_≡_};
 ghost use mathlib.Core.List.{[]};
 ghost use Prim.Native.Nat.{_+_, _-_, _≤_, _<_};
@@ -133,8 +133,8 @@ fn numbers_to(buffer: &mut [u8], at: usize, numbers: &[u64]) -> usize
     p + 2
 }
 
-// A whole line into the buffer from `at` on, or nothing: the word, each number behind a space, `)` and LF. Without `write` it is only measured: the
-// answer is the same, and no byte changes.
+// A whole line into the buffer from `at` on, or nothing: the word, each number behind a space,
+// `)` and LF. Without `write` it is only measured: the answer is the same, and no byte changes.
 pub fn put_form(write: bool, buffer: &mut [u8], at: usize, word: &[u8], numbers: &[u64]) -> Put
     ensures { λ r. ⌜ (r ≡ putAnswer (now (buffer .entry)) at (drawLine (now (word .entry)) (now (numbers .entry)))) × (now (buffer .exit) ≡ passBuffer write (now (buffer .entry)) at (drawLine (now (word .entry)) (now (numbers .entry)))) × (putNumber r ≡ putRow (now (buffer .entry)) at (drawLine (now (word .entry)) (now (numbers .entry)))) ⌝ }
 {

@@ -1,5 +1,5 @@
--- `list` meets its contract: both tables from the start are both tables from call i on, the calls from i on are each of some kind, and the answers' table
--- keeps its length.
+-- `list` meets its contract: both tables from the start are both tables from call i on,
+-- the calls from i on are each of some kind, and the answers' table keeps its length.
 use Prim.Native.Nat.{_-_, _≤_, _<_}
 use mathlib.Core.Path.{_≡_, refl, sym, ap, _∙_}
 use mathlib.Core.Bool.{true}

@@ -1,4 +1,5 @@
--- `tell` meets its contract: the four stores are the definition's; the last is compared by `omega`, so that a wrong line is refused as a false fact.
+-- `tell` meets its contract: the four stores are the definition's; the last
+-- is compared by `omega`, so that a wrong line is refused as a false fact.
 use Prim.Native.Nat.{ℕ}
 use mathlib.Core.Path.{ap}
 use native.Mathlib.Omega.{arith}

@@ -1,4 +1,5 @@
--- `log_lines::nodes_head` meets its contract: the three pieces fit in 32 bytes, 7 and at most 10 and 5, so each stands behind the one before.
+-- `log_lines::nodes_head` meets its contract: the three pieces fit in 32
+-- bytes, 7 and at most 10 and 5, so each stands behind the one before.
 -- Assumes nothing.
 use mathlib.Core.Path.{_≡_, _∙_}
 use mathlib.Core.List.{_++_}

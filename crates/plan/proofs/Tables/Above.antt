@@ -8,8 +8,8 @@ use Rattle.rules.specs.Choice.{if_then_else_}
 use Rattle.plan.specs.Tree.{Port, node, empty, hub, Hub, close, port, portsOf, nodesAt, nodesIn, hubsAt, hubsIn}
 use Rattle.plan.proofs.Tree.Room.{one-hub}
 
--- above port Q of hub G, where G is one of the hubs of a port behind n nodes and h hubs; or it is hub g itself, of whose ports those behind q are left, or
--- one of the hubs there
+-- above port Q of hub G, where G is one of the hubs of a port behind n nodes and h hubs; or
+-- it is hub g itself, of whose ports those behind q are left, or one of the hubs there
 unfoldable mutual
   pub aboveAt : Port → ℕ → ℕ → ℕ → ℕ → ℕ
   aboveAt node n h G Q = n

@@ -1,4 +1,5 @@
--- What later proofs need of the ports, hubs and nodes of a plan, said of intervals of their numbers, so that the parts of a tree join to the whole.
+-- What later proofs need of the ports, hubs and nodes of a plan, said of
+-- intervals of their numbers, so that the parts of a tree join to the whole.
 use Prim.Native.Nat.{ℕ, _+_, _≤_, _<_}
 use mathlib.Core.Path.{_≡_, refl, sym, subst, subst₂}
 use mathlib.Core.Bool.{Bool, true, false}

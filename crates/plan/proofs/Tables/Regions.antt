@@ -1,4 +1,5 @@
--- Regions of cells, named by what their cells are not: the cells that a filling may still touch. And which of them the cells of a hub and of a node lie in:
+-- Regions of cells, named by what their cells are not: the cells that a filling
+-- may still touch. And which of them the cells of a hub and of a node lie in:
 -- cells of different addresses are different, and all lie behind the figures.
 use Prim.Native.Nat.{ℕ, _+_, _≤_, _<_}
 use mathlib.Core.Path.{_≡_}

@@ -1,5 +1,5 @@
--- Tables show a part of a tree: each of its ports, hubs and nodes stands in the cells of its number in line order. The tables of a filling show what was
--- filled, and whatever agrees with them outside what is filled later shows it too.
+-- Tables show a part of a tree: each of its ports, hubs and nodes stands in the cells of its number in line order. The
+-- tables of a filling show what was filled, and whatever agrees with them outside what is filled later shows it too.
 use Prim.Native.Nat.{ℕ, _+_, _≤_, _<_}
 use mathlib.Core.Path.{_≡_, _∙_}
 use mathlib.Core.List.{List}
@@ -26,7 +26,8 @@ pub record HubShown (t : List ℕ) (g q h l : ℕ) : Type 0 where
   pub place : cell t (hubCell h 2) ≡ q
   pub level : cell t (hubCell h 3) ≡ l
 
--- what stands at port q of hub g, which is of level l, behind n nodes and h hubs; and what stands at its ports behind port q, which are its last
+-- what stands at port q of hub g, which is of level l, behind n nodes and h
+-- hubs; and what stands at its ports behind port q, which are its last
 unfoldable mutual
   pub PortShows : Port → List ℕ → ℕ → ℕ → ℕ → ℕ → ℕ → Type 0
   PortShows node t g q l n h = NodeShown t g q (n + 1)

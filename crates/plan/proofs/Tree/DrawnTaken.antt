@@ -1,4 +1,5 @@
--- The drawing of every tree within the limits, behind three good figures, is taken for that very tree, whatever follows it. Assumes nothing.
+-- The drawing of every tree within the limits, behind three good figures,
+-- is taken for that very tree, whatever follows it. Assumes nothing.
 use Prim.Native.Nat.{ℕ, _+_, _<_, _^_}
 use mathlib.Core.Path.{_≡_, refl, ap, _∙_}
 use mathlib.Core.Bool.{true}

@@ -1,5 +1,5 @@
--- The room that a tree's limits leave, port by port: what may still stand in a hub that has q ports so far and is of level l, with so many nodes and
--- hubs before it. Assumes nothing.
+-- The room that a tree's limits leave, port by port: what may still stand in a hub that has q
+-- ports so far and is of level l, with so many nodes and hubs before it. Assumes nothing.
 use Prim.Native.Nat.{ℕ, _+_, _≤_, _<_}
 use mathlib.Core.Path.{_≡_}
 use mathlib.Core.Bool.{Bool, true, _&&_}

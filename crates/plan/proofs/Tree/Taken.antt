@@ -1,5 +1,5 @@
--- Document 01's plan rows in one statement: a text is taken just where it starts with the drawing of a tree within the limits, behind three good figures,
--- and then for that tree's tables. Every other text is refused. Assumes nothing.
+-- Document 01's plan rows in one statement: a text is taken just where it starts with the drawing of a tree within the
+-- limits, behind three good figures, and then for that tree's tables. Every other text is refused. Assumes nothing.
 use Prim.Native.Nat.{ℕ}
 use mathlib.Core.Path.{_≡_, refl, sym, _∙_}
 use mathlib.Core.Logic.{_↔_}

@@ -1,4 +1,5 @@
--- `reader::line_at` meets its contract: a walk of its MIR, by hand. A reader is made in a local, and lent to `next` for the call (`Lending.antt`). What the line's fields and the reader's say goes to `told`, whose answer is the scanner's (`Handed.antt`).
+-- `reader::line_at` meets its contract: a walk of its MIR, by hand. A reader is made in a local, and lent to `next` for the call
+-- (`Lending.antt`). What the line's fields and the reader's say goes to `told`, whose answer is the scanner's (`Handed.antt`).
 -- All that the proof knows of `new`, `next` and `told` is that each meets its contract.
 -- Assumes nothing.
 use mathlib.Core.Path.{_≡_, refl, sym, ap, subst, _∙_}
@@ -161,20 +162,23 @@ module _ {M : Type 1} (𝓤 : URA M) (H : Heap 𝓤) (A : Atoms 𝓤) (W : Given
         move ! (26 ∷ []) $ use1 W (raw (m.New 𝓤 H A mem run .pre (m.to-new 𝓤 H A W mem run κ q s p n)) ⊛ ‵ Own) goes-new $ split ! $
         calls-at ! fm (m.New 𝓤 H A mem run) known-new (m.to-new 𝓤 H A W mem run κ q s p n) (and-then ! (load ! (from ! (stop !)) (look ! 24 refl)) (and-then ! (load ! (from ! (stop !)) (look ! 22 refl)) (and-then ! (load ! (from ! (stop !)) (look ! 20 refl)) (no-more !)))) (λ u.
         use1 W (m.Made 𝓤 H A W mem run κ q s p n u) (m.made-of 𝓤 H A W mem run κ q s p n u) $ await ! tt $ learn ! (λ g. split ! $
-        -- [what the reader owns; the token; what text owns; _12; …; _11; …; _10; …; _9; …; _8; …; _7; …; _6; …; _5; …; _4; …; _3; …; _2; …; _1; …; room for _0; …]
+        -- [what the reader owns; the token; what text owns; _12; …; _11; …; _10; …; _9;
+        -- …; _8; …; _7; …; _6; …; _5; …; _4; …; _3; …; _2; …; _1; …; room for _0; …]
         land ! (from ! (stop !)) (init ! 15 refl (LL.lawful (T.the-type αᵉ) (T′.the-laws αᵉ) 𝓤 H A W .typed h _ g .0)) $
         rewrite ! 0 (λ (us : List Val). ‵ (has.R κ .own h us)) (m.spells 𝓤 H A W mem run κ q s p n g) refl $ rewrite ! 15 (λ (x : Val). ‵ (fat fullShare (T′.mir erased) l₆ 0 x)) (ap only (m.spells 𝓤 H A W mem run κ q s p n g)) refl $
         assigns ! (of-opd ! (load ! (from ! (stop !)) (look ! 15 refl))) (from ! (stop !)) (init ! 19 refl (LL.lawful (T.the-type αᵉ) (T′.the-laws αᵉ) 𝓤 H A W .typed h _ (m.spelled 𝓤 H A W mem run κ q s p n g) .0)) $
         assigns ! (addr ! (from ! (stop !))) (from ! (stop !)) (init ! 13 refl (tt, tt)) $
         -- the reader is lent to `next`
         move ! (1 ∷ []) $ split ! $ move ! (20 ∷ 2 ∷ 0 ∷ []) $ use3 W (L.Lends 𝓤 H A W mem run κ q l₄ h) (L.lends 𝓤 H A W mem run κ q l₄ h) $ await ! tt $ pick ! (λ ν. pick ! (λ γ. split ! $
-        -- [what `next` asks; what is kept; true; what text owns; _12; …; _11; …; _10; …; _9; …; _8; …; _7; …; _6; …; _5; …; that _4 dies; _3; …; _2; …; _1; …; room for _0; …]
+        -- [what `next` asks; what is kept; true; what text owns; _12; …; _11; …; _10; …; _9;
+        -- …; _8; …; _7; …; _6; …; _5; …; that _4 dies; _3; …; _2; …; _1; …; room for _0; …]
         calls-at ! fm (L.Next 𝓤 H A mem run) known-next (L.to-next 𝓤 H A W mem run κ q l₄ h ν γ) (and-then ! (load ! (from ! (stop !)) (look ! 14 refl)) (no-more !)) (λ w.
         use2 W (L.Back 𝓤 H A W mem run κ q l₄ h w) (L.comes-back 𝓤 H A W mem run κ q l₄ h ν γ w) $ await ! tt $ pick ! (λ l. learn ! (λ e. split ! $ move ! (1 ∷ []) $ split ! $ move ! (1 ∷ []) $ split ! $
         peeks ! (has.R κ) (Is (has.R κ)) (shows 𝓤 H A (has.R κ)) (movedOn h) (T′.lowered (movedOn h) ∷ []) (λ g′. drop ! $ move ! (2 ∷ []) $
         peeks ! (N.the-row (has.α κ)) (Is (N.the-row (has.α κ))) (shows 𝓤 H A (N.the-row (has.α κ))) l (w ∷ []) (λ k.
         land ! (from ! (stop !)) (init ! 19 refl (LL.lawful (N.the-type αᵉ) (N′.the-laws αᵉ) 𝓤 H A W .typed l _ k .0)) $ rewrite ! 19 (λ (x : Val). ‵ (fat fullShare (N′.mir erased) l₅ 0 x)) (ap only (LL.tells (N.the-type (has.α κ)) (N′.the-laws (has.α κ)) l _ k)) refl $ drop ! $
-        -- [the token; the reader; true; what text owns; _12; …; _11; …; _10; …; _9; …; _8; …; _7; …; _6; …; the line; …; that _4 dies; _3; …; _2; …; _1; …; room for _0; …]
+        -- [the token; the reader; true; what text owns; _12; …; _11; …; _10; …; _9; …; _8;
+        -- …; _7; …; _6; …; the line; …; that _4 dies; _3; …; _2; …; _1; …; room for _0; …]
         assigns ! (of-opd ! (load ! (from ! (fld ! refl (fld ! refl (stop !)))) (look-in ! 18 (sub ! 1 refl (sub ! 0 refl (whole !)))))) (from ! (stop !)) (init ! 12 refl (tt, record { fits = has.bytes-fit κ l w k })) $
         assigns ! (of-opd ! (load ! (from ! (fld ! refl (stop !))) (look-in ! 18 (sub ! 1 refl (whole !))))) (from ! (stop !)) (init ! 10 refl (tt, record { fits = has.line-fits κ l w k })) $
         assigns ! (of-opd ! (load ! (from ! (fld ! refl (stop !))) (look-in ! 18 (sub ! 2 refl (whole !))))) (from ! (stop !)) (init ! 8 refl (tt, tt)) $
@@ -185,7 +189,8 @@ module _ {M : Type 1} (𝓤 : URA M) (H : Heap 𝓤) (A : Atoms 𝓤) (W : Given
         calls-at ! fm (Told 𝓤 H A mem run) known-told (to-told l) (and-then ! (load ! (from ! (stop !)) (look ! 24 refl)) (and-then ! (load ! (from ! (stop !)) (look ! 13 refl)) (and-then ! (load ! (from ! (stop !)) (look ! 11 refl)) (and-then ! (load ! (from ! (stop !)) (look ! 9 refl)) (and-then ! (load ! (from ! (stop !)) (look ! 7 refl)) (and-then ! (load ! (from ! (stop !)) (look ! 5 refl)) (no-more !))))))) (λ z.
         use1 W (later (some (λ (x : Next). (‵ ftrue ⊛ ‵ (X.the-row .own x (z ∷ []))) ⊛ raw (ensured 𝓤 H A told.ended (told.clauses 𝓤 H A mem run) tt (p, (length (l .bytes .now), (l .number, (l .ended, (f .at, (f .number, tt)))))) tt x)))) (id⊢ 𝓤 _) $ await ! tt $ pick ! (λ x.
         split ! $ move ! (1 ∷ []) $ use1 W (raw (fact 𝓤 (x ≡ answer l))) (told-said l x) $ heard ! (x ≡ answer l) (λ e′. split ! $ move ! (1 ∷ []) $
-        -- [the answer; true; the token; the reader; true; what text owns; _12; …; _11; …; _10; …; _9; …; _8; …; _7; …; _6; …; _5; …; that _4 dies; _3; …; _2; …; _1; …; room for _0; …]
+        -- [the answer; true; the token; the reader; true; what text owns; _12; …; _11; …; _10; …;
+        -- _9; …; _8; …; _7; …; _6; …; _5; …; that _4 dies; _3; …; _2; …; _1; …; room for _0; …]
         peeks ! X.the-row (Is X.the-row) (shows 𝓤 H A X.the-row) x (z ∷ []) (λ j.
         land ! (from ! (stop !)) (init ! 29 refl (EL.lawful X.the-type X′.the-laws 𝓤 H A W tt .typed x _ j .0)) $
         returns ! (look ! 29 refl) $ forget ! 3 refl $ forget ! 6 refl $ forget ! 8 refl $ forget ! 10 refl $ forget ! 12 refl $ forget ! 14 refl $ forget ! 16 refl $ forget ! 18 refl $ forget ! 20 refl $ forget ! 23 refl $ forget ! 25 refl $ forget ! 27 refl $ forget ! 29 refl $

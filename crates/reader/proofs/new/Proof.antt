@@ -1,4 +1,5 @@
--- `reader::new` meets its contract: a walk of its MIR, by hand. A `Reader` is made of the slice and the two numbers passed, in the result's local.
+-- `reader::new` meets its contract: a walk of its MIR, by hand. A `Reader`
+-- is made of the slice and the two numbers passed, in the result's local.
 -- A `&[u8]` is Copy, so what it owns is had twice: once for text at exit, and once inside the result, beside the facts of the numbers.
 -- Assumes nothing.
 use mathlib.Core.Path.{refl}

@@ -1,6 +1,9 @@
--- `reader::next` meets its contract: a walk of its MIR, by hand. The borrow of the reader is opened, and its fields are read. `scan` is called on them, and `piece` on the text and where the line ends.
--- The two numbers are stored beside the text that the reader holds, the borrow is closed at the reader that has moved on, and the line is put together of the part and its numbers.
--- All that the proof knows of `scan` and of `piece` is that each meets its contract. The reader is Copy: the text is had out of it as often as it is needed.
+-- `reader::next` meets its contract: a walk of its MIR, by hand. The borrow of the reader is opened,
+-- and its fields are read. `scan` is called on them, and `piece` on the text and where the line ends.
+-- The two numbers are stored beside the text that the reader holds, the borrow is closed at
+-- the reader that has moved on, and the line is put together of the part and its numbers.
+-- All that the proof knows of `scan` and of `piece` is that each meets its contract.
+-- The reader is Copy: the text is had out of it as often as it is needed.
 -- Assumes nothing.
 use mathlib.Core.Path.{_≡_, refl, ap, subst}
 use Prim.Native.Nat.{ℕ, _<_, _^_}
@@ -169,7 +172,8 @@ module _ {M : Type 1} (𝓤 : URA M) (H : Heap 𝓤) (A : Atoms 𝓤) (W : Given
         opens ! tt R {h = h p n} b o (λ vs. spelt ! R (Is R) (shows 𝓤 H A R) (LL.vals (T.the-type α) (T′.the-laws α)) (LL.tells (T.the-type α) (T′.the-laws α)) fullShare (h p n) vs b o $
         use1 W (‵ (fat fullShare (T′.mir erased) b o (mach p n))) (W .laws .raw-at fullShare (T′.mir erased) b o (mach p n)) $
         move ! (1 ∷ []) $ peeks ! R (Is R) (shows 𝓤 H A R) (h p n) (mach p n ∷ []) (λ g. move ! (1 ∷ 0 ∷ []) $
-        -- [the reader's cell; what it owns; the open borrow; obs; auth; the text's token; true; _6; …; _5; …; _4; …; _3; …; _2; …; _1; …; room for _0; …]
+        -- [the reader's cell; what it owns; the open borrow; obs; auth; the text's
+        -- token; true; _6; …; _5; …; _4; …; _3; …; _2; …; _1; …; room for _0; …]
         assigns ! (of-opd ! (load ! (from ! (hop ! (look ! 17 refl) (fld ! refl (stop !)))) (look-in ! 0 (sub ! 0 refl (whole !))))) (from ! (stop !)) (init ! 15 refl (tt, (tt, (record { fits = has.text-room κ′ (h p n) _ g .0 }, tt)))) $
         assigns ! (of-opd ! (load ! (from ! (hop ! (look ! 17 refl) (fld ! refl (stop !)))) (look-in ! 0 (sub ! 1 refl (whole !))))) (from ! (stop !)) (init ! 13 refl (tt, record { fits = has.at-fits κ′ (h p n) _ g })) $
         assigns ! (of-opd ! (load ! (from ! (hop ! (look ! 17 refl) (fld ! refl (stop !)))) (look-in ! 0 (sub ! 2 refl (whole !))))) (from ! (stop !)) (init ! 11 refl (tt, record { fits = has.number-fits κ′ (h p n) _ g })) $
@@ -178,7 +182,8 @@ module _ {M : Type 1} (𝓤 : URA M) (H : Heap 𝓤) (A : Atoms 𝓤) (W : Given
         calls-at ! fm (Scan 𝓤 H A at-mem run) known-scan to-scan (and-then ! (load ! (from ! (stop !)) (look ! 15 refl)) (and-then ! (load ! (from ! (stop !)) (look ! 13 refl)) (and-then ! (load ! (from ! (stop !)) (look ! 11 refl)) (no-more !)))) (λ u.
         use1 W (later (some (λ (f : Found). ((‵ (flft κ′ q′) ⊛ ‵ ftrue) ⊛ ‵ (F.the-row .own f (u ∷ []))) ⊛ raw (ensured 𝓤 H A scan.ended (scan.clauses 𝓤 H A at-mem run) (κ′, tt) (s, (p, (n, tt))) tt f)))) (id⊢ 𝓤 _) $ await ! tt $ pick ! (λ f.
         split ! $ move ! (1 ∷ []) $ use1 W (raw (fact 𝓤 (f ≡ foundAt (now s) p n))) (scan-said f) $ heard ! (f ≡ foundAt (now s) p n) (λ e. split ! $ move ! (1 ∷ []) $
-        -- [what was found; the text's token; what the reader owns; its cell; the open borrow; obs; auth; true; _6; …; _5; …; _4; …; _3; …; _2; …; _1; …; room for _0; …]
+        -- [what was found; the text's token; what the reader owns; its cell; the open borrow;
+        -- obs; auth; true; _6; …; _5; …; _4; …; _3; …; _2; …; _1; …; room for _0; …]
         peeks ! F.the-row (Is F.the-row) (shows 𝓤 H A F.the-row) f (u ∷ []) (λ is.
         land ! (from ! (stop !)) (init ! 10 refl (LL.lawful F.the-type F′.the-laws 𝓤 H A W .typed f _ is .0)) $ rewrite ! 10 (λ (w : Val). ‵ (fat fullShare F′.mir l₅ 0 w)) (ap only (LL.tells F.the-type F′.the-laws f _ is)) refl $ drop ! $
         -- the call of `piece`
@@ -186,7 +191,8 @@ module _ {M : Type 1} (𝓤 : URA M) (H : Heap 𝓤) (A : Atoms 𝓤) (W : Given
         calls-at ! fm (Piece 𝓤 H A at-mem run) known-piece (to-piece (f .end)) (and-then ! (load ! (from ! (stop !)) (look ! 15 refl)) (and-then ! (load ! (from ! (stop !)) (look ! 13 refl)) (and-then ! (load ! (from ! (fld ! refl (stop !))) (look-in ! 9 (sub ! 0 refl (whole !)))) (no-more !)))) (λ w.
         use1 W (later (some (λ (t : RefT (List ℕ)). ((‵ (flft κ′ q′) ⊛ ‵ ftrue) ⊛ ‵ (ShrSlice (named 0) κ′ u8 .own t (w ∷ []))) ⊛ raw (ensured 𝓤 H A piece.ended (piece.clauses 𝓤 H A at-mem run) (κ′, tt) (s, (p, (f .end, tt))) tt t)))) (id⊢ 𝓤 _) $ await ! tt $ pick ! (λ t.
         split ! $ move ! (1 ∷ []) $ use1 W (raw (fact 𝓤 (PartOf s p (f .end) t))) (piece-said (f .end) t) $ heard ! (PartOf s p (f .end) t) (λ d. split ! $ move ! (1 ∷ []) $
-        -- [the part; the text's token; what the reader owns; its cell; the open borrow; obs; auth; true; _6; …; _5; …; _4; …; _3; …; _2; …; _1; …; room for _0; …]
+        -- [the part; the text's token; what the reader owns; its cell; the open borrow;
+        -- obs; auth; true; _6; …; _5; …; _4; …; _3; …; _2; …; _1; …; room for _0; …]
         peeks ! (ShrSlice (named 0) κ′ u8) (Is (ShrSlice (named 0) κ′ u8)) (shows 𝓤 H A (ShrSlice (named 0) κ′ u8)) t (w ∷ []) (λ is′.
         land ! (from ! (stop !)) (init ! 8 refl (shr-slice-lawful 𝓤 H A W erased κ′ u8 .typed t _ is′ .0)) $
         rewrite ! 0 (λ (us : List Val). ‵ (ShrSlice (named 0) κ′ u8 .own t us)) (shr-slice-tells (named 0) κ′ u8 t _ is′) refl $ rewrite ! 8 (λ (x : Val). ‵ (fat fullShare (sliceTy (tyRef erased imm (tyInt w8))) l₆ 0 x)) (ap only (shr-slice-tells (named 0) κ′ u8 t _ is′)) refl $

@@ -1,4 +1,5 @@
--- `reader::piece` meets its contract: a part that starts behind its end or the text's has no byte, and of a part that ends behind the text's end there is what the text has. It is the text's own memory, from the start on.
+-- `reader::piece` meets its contract: a part that starts behind its end or the text's has no byte, and of a part
+-- that ends behind the text's end there is what the text has. It is the text's own memory, from the start on.
 -- Assumes nothing.
 use mathlib.Core.Path.{_≡_, refl, sym, ap, _∙_}
 use mathlib.Core.List.{List}

@@ -1,4 +1,5 @@
--- Pointers, holder and latest class over the cells: what is read, and that a store into one of their cells is the change that `rules` makes.
+-- Pointers, holder and latest class over the cells: what is read, and that
+-- a store into one of their cells is the change that `rules` makes.
 use Prim.Native.Nat.{ℕ, _+_, _*_, _/_, _%_, _≤_, _<_}
 use mathlib.Core.Path.{_≡_, refl, ap, _∙_}
 use mathlib.Core.Bool.{Bool, true, false, _&&_}

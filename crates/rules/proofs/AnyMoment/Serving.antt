@@ -1,4 +1,5 @@
--- One more call while node k's high request waits, or after its grant: a grant to k is a high one, in time, and any other call leaves k waiting.
+-- One more call while node k's high request waits, or after its grant: a
+-- grant to k is a high one, in time, and any other call leaves k waiting.
 use Prim.Native.Nat.{ℕ, _+_, _≤_, _<_}
 use mathlib.Core.Path.{_≡_, refl, sym}
 use mathlib.Core.Bool.{true, false, not, _||_}

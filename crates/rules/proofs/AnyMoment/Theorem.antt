@@ -1,5 +1,5 @@
--- Request 5 of document 02 over every list of calls, for every turn machine that follows the flat rule. One induction over the calls behind the request; a frame's
--- start among them is a call like any other.
+-- Request 5 of document 02 over every list of calls, for every turn machine that follows the flat rule.
+-- One induction over the calls behind the request; a frame's start among them is a call like any other.
 use Prim.Native.Nat.{ℕ, _+_, _≤_, _<_}
 use mathlib.Core.Path.{_≡_, refl, sym, ap, ap₂, _∙_, subst, fun-ext}
 use mathlib.Core.Bool.{true}

@@ -1,5 +1,5 @@
--- The calls behind a place, while a request of node k that was put up there is kept standing and no change of the reservations comes into force: what holds of them
--- all holds up to each place between.
+-- The calls behind a place, while a request of node k that was put up there is kept standing and no
+-- change of the reservations comes into force: what holds of them all holds up to each place between.
 use Prim.Native.Nat.{ℕ, _≤_}
 use mathlib.Core.Path.{_≡_, refl, sym, _∙_}
 use mathlib.Core.Bool.{true}

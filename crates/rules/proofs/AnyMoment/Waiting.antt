@@ -1,5 +1,6 @@
--- A high request that node k put up at `start` and that has no grant yet: it counts, in every frame that the clock comes to, and of the other nodes each has had
--- at most one high grant since. Nothing here asks whether a frame's start lies between: G counts from `start` on, whatever the core counts.
+-- A high request that node k put up at `start` and that has no grant yet: it counts, in every frame
+-- that the clock comes to, and of the other nodes each has had at most one high grant since. Nothing
+-- here asks whether a frame's start lies between: G counts from `start` on, whatever the core counts.
 use Prim.Native.Nat.{ℕ, _+_, _*_, _≤_, _<_}
 use mathlib.Core.Path.{_≡_, refl, sym, ap, _∙_}
 use mathlib.Core.Bool.{true, false}

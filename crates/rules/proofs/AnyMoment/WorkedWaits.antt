@@ -1,4 +1,5 @@
--- The worked waits, by one computation each; and where a row says that all premises hold, they are those of the theorem, of the row's own request.
+-- The worked waits, by one computation each; and where a row says that all
+-- premises hold, they are those of the theorem, of the row's own request.
 use Prim.Native.Nat.{ℕ, _+_, _-_, _≤_}
 use mathlib.Core.Path.{_≡_, refl, sym, ap, ap₂, _∙_, subst}
 use mathlib.Core.Bool.{true, false}

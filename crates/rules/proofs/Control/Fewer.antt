@@ -1,5 +1,5 @@
--- Control that goes up only to the hub where it turns never takes more moves than control that goes up to the root: of two hubs on the line, both led to, a walk
--- from the lower one takes at most the moves of a walk from the upper one and the one move up to it.
+-- Control that goes up only to the hub where it turns never takes more moves than control that goes up to the root: of two hubs on
+-- the line, both led to, a walk from the lower one takes at most the moves of a walk from the upper one and the one move up to it.
 use Prim.Native.Nat.{ℕ, zero, suc, _+_, _-_, _≤_, _<_}
 use mathlib.Core.Path.{_≡_, refl, ap, _∙_, subst}
 use mathlib.Core.Bool.{Bool, true, false}

@@ -1,4 +1,5 @@
--- Hub-by-hub control follows the flat rule: for each class the flat pointer is the node behind those that the search has passed. And the move limit.
+-- Hub-by-hub control follows the flat rule: for each class the flat pointer
+-- is the node behind those that the search has passed. And the move limit.
 use Prim.Native.Nat.{ℕ, _+_, _-_, _*_, _≤_}
 use mathlib.Core.Path.{_≡_, refl, sym, subst}
 use mathlib.Core.Bool.{Bool, true}

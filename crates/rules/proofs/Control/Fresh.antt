@@ -1,4 +1,5 @@
--- A hub entered afresh through a port that shows a request never hands up: from there the walk only goes down, at most to the deepest level.
+-- A hub entered afresh through a port that shows a request never hands
+-- up: from there the walk only goes down, at most to the deepest level.
 use Prim.Native.Nat.{ℕ, zero, suc, _+_, _-_, _≤_}
 use mathlib.Core.Path.{_≡_, refl, ap, subst}
 use mathlib.Core.Bool.{Bool, true, false}

@@ -1,4 +1,5 @@
--- Intervals of numbers, those above a and up to z, and what f says of them. A row of consecutive intervals is shown by the tests of its parts.
+-- Intervals of numbers, those above a and up to z, and what f says of them.
+-- A row of consecutive intervals is shown by the tests of its parts.
 use Prim.Native.Nat.{ℕ, zero, suc, _+_, _≤_, _<_}
 use mathlib.Core.Path.{_≡_, refl, subst}
 use mathlib.Core.Bool.{Bool, true, false, _||_}

@@ -1,4 +1,5 @@
--- Where a walk lands: at the flat rule's choice, with the pointers behind it, in few moves. And how that is carried over what a look passes.
+-- Where a walk lands: at the flat rule's choice, with the pointers behind
+-- it, in few moves. And how that is carried over what a look passes.
 use Prim.Native.Nat.{ℕ, _+_, _≤_}
 use mathlib.Core.Path.{_≡_}
 use mathlib.Core.Bool.{Bool, false}

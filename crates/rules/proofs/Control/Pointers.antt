@@ -1,5 +1,5 @@
--- The pointers of one class, as a table P over hubs. From a hub down, they say where the search stands (Good); above the holder they are marked and on its
--- line (Chain).
+-- The pointers of one class, as a table P over hubs. From a hub down, they say where
+-- the search stands (Good); above the holder they are marked and on its line (Chain).
 use Prim.Native.Nat.{ℕ, _+_, _≤_, _<_}
 use mathlib.Core.Path.{_≡_, refl, sym, ap, _∙_, subst}
 use native.Mathlib.Omega.{arith}
@@ -21,7 +21,8 @@ pub record Above (p : Plan) (P : ℕ → Pointer) (g : ℕ) : Type 0 where
   pub up : g ≤ p .hubs
   pub chain : Chain p P (p .parent g)
 
--- from hub g down the search has passed the nodes up to x: an unmarked pointer stands before its port's first node, a marked one goes by the hub there
+-- from hub g down the search has passed the nodes up to x: an unmarked pointer
+-- stands before its port's first node, a marked one goes by the hub there
 pub data Good (p : Plan) (D : Drawn p) (P : ℕ → Pointer) (x : ℕ) : ℕ → Type 0 where
   stands : {g : ℕ} (q : ℕ) → P g ≡ atPort q → 1 ≤ q → q ≤ p .ports g + 1 → x ≡ D .above g q → Good p D P x g
   inside : {g : ℕ} (q h : ℕ) → P g ≡ marking q → Within (p .ports g) q → p .port g q ≡ hub h → Good p D P x h → Good p D P x g

@@ -1,5 +1,5 @@
--- Two walks of one class from one hub. Pointers off the marked line are set before they are looked at, so where both have the same marked line below the hub,
--- and are marked above it, both take as many moves.
+-- Two walks of one class from one hub. Pointers off the marked line are set before they are looked at, so
+-- where both have the same marked line below the hub, and are marked above it, both take as many moves.
 use Prim.Native.Nat.{ℕ, zero, suc, _+_, _≤_, _<_}
 use mathlib.Core.Path.{_≡_, refl, ap, _∙_}
 use mathlib.Core.Bool.{Bool, false}

@@ -1,5 +1,5 @@
--- What holds of the core at every place of a run (`Sound`), and how the words of demand 3 read it off the calls and answers (`Told`). Statements only: the
--- proofs stand in files of their own.
+-- What holds of the core at every place of a run (`Sound`), and how the words of demand 3 read it
+-- off the calls and answers (`Told`). Statements only: the proofs stand in files of their own.
 use Prim.Native.Nat.{ℕ, _+_, _*_, _≤_, _<_}
 use mathlib.Core.Path.{_≡_}
 use mathlib.Core.List.{List, [], _∷_}

@@ -1,5 +1,5 @@
--- What a further call leaves as it was: the clock never goes back, what is reserved up to the clock's frame stays, and so do the high grants of frames that
--- are over.
+-- What a further call leaves as it was: the clock never goes back, what is reserved
+-- up to the clock's frame stays, and so do the high grants of frames that are over.
 use Prim.Native.Nat.{ℕ, _*_, _≤_, _<_}
 use mathlib.Core.Path.{_≡_, refl, _∙_}
 use mathlib.Core.List.{List, [], _∷_, _++_}

@@ -17,7 +17,8 @@ use Rattle.rules.proofs.Laws.Frames.{frame-mono}
 use Rattle.rules.proofs.Core.Instants.{Advanced, across, inside, advanced}
 use Rattle.rules.proofs.Core.Requests.{Start, stays-high, turns-normal, start-of}
 
--- k's request by the words, and in the core, in frame f: a high one is high still if each frame start since kept it, and normal if one did not
+-- k's request by the words, and in the core, in frame f: a high one is high
+-- still if each frame start since kept it, and normal if one did not
 pub data Tells (p : Plan) (k : ℕ) (past : List Entry) (now : ℕ) : Asked → Request → Type 0 where
   neither : Tells p k past now Asked.none Request.none
   plain : (t b : ℕ) → Tells p k past now (asked normal t b) (standing normal b)

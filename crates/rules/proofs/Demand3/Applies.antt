@@ -1,5 +1,5 @@
--- Demand 3's premises can be met: one list of calls of which it says something, worked out. Node 3 reserves one packet of 4,000, and its high request stands
--- from the start of frame 1.
+-- Demand 3's premises can be met: one list of calls of which it says something, worked out.
+-- Node 3 reserves one packet of 4,000, and its high request stands from the start of frame 1.
 use mathlib.Core.Path.{_≡_, refl, sym, subst}
 use mathlib.Core.List.{List, [], _∷_, _++_}
 use native.Mathlib.Omega.{arith}

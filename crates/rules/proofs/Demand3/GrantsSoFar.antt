@@ -1,4 +1,5 @@
--- How far node k has come in frame f, at a place: the frame is still to come, or k has some of its n high grants, or it has them all, in time.
+-- How far node k has come in frame f, at a place: the frame is still to
+-- come, or k has some of its n high grants, or it has them all, in time.
 use Prim.Native.Nat.{ℕ, _+_, _*_, _≤_, _<_}
 use mathlib.Core.Path.{_≡_, refl, ap, _∙_, subst, fun-ext}
 use mathlib.Core.List.{List, [], _∷_}

@@ -1,4 +1,5 @@
--- One turn within a frame in which node k's high request counts: after it k has more to come, or this was its nth grant, which ends within the delay limit.
+-- One turn within a frame in which node k's high request counts: after it k has
+-- more to come, or this was its nth grant, which ends within the delay limit.
 use Prim.Native.Nat.{ℕ, _+_, _*_, _≤_, _<_}
 use mathlib.Core.Path.{_≡_, refl, sym, subst}
 use native.Mathlib.Omega.{arith}

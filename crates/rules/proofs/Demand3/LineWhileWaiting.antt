@@ -12,7 +12,8 @@ use Rattle.rules.proofs.Laws.Clash.{clash}
 use Rattle.rules.proofs.Core.Instants.{Instant, line-ends, one-counts, one-held, no-instant, instant}
 use Rattle.rules.proofs.Demand3.Standing.{some-counts, DueBefore}
 
--- the line, where it can be busy up to b: busy until then at the latest, or it rests and k, with no grant yet, has not been kept waiting longer
+-- the line, where it can be busy up to b: busy until then at the latest,
+-- or it rests and k, with no grant yet, has not been kept waiting longer
 pub data Held (b clock grants : ℕ) : Line → Type 0 where
   until-end : (e : ℕ) → e ≤ b → Held b clock grants (busy e)
   at-rest : clock ≤ b → grants ≡ 0 → Held b clock grants resting

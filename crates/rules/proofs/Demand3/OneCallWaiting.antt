@@ -1,5 +1,5 @@
--- One more call, where the clock is still before f and k's request is high: the clock stays there, or it comes to a time in f, early enough, and k's request
--- counts there.
+-- One more call, where the clock is still before f and k's request is high: the clock
+-- stays there, or it comes to a time in f, early enough, and k's request counts there.
 use Prim.Native.Nat.{ℕ, _+_, _*_, _≤_, _<_}
 use mathlib.Core.Path.{_≡_, refl, sym, ap, _∙_, subst}
 use mathlib.Core.Bool.{true, false}

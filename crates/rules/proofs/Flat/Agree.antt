@@ -1,5 +1,6 @@
--- One call by two machines that give the same turn: the answers are the same but for moves, and so are the cores that are left. And over every list of calls,
--- a machine that follows the flat rule gives the flat hub's answers but for moves; one induction carries along what is known of its moves.
+-- One call by two machines that give the same turn: the answers are the same but for moves, and so are
+-- the cores that are left. And over every list of calls, a machine that follows the flat rule gives the
+-- flat hub's answers but for moves; one induction carries along what is known of its moves.
 use Prim.Native.Nat.{ℕ}
 use mathlib.Core.Path.{_≡_, refl, subst}
 use mathlib.Core.Bool.{Bool, true}
@@ -33,7 +34,8 @@ pub record Costs (p : Plan) (M : Machine) (F : Follows p M) (Cost : ℕ → Type
   pub choose : (c : Class) (f : ℕ → Bool) (σ : M .State) (π : Pointers) → any (p .nodes) f ≡ true → F .Like σ π → Cost (M .choose c f σ .moves)
   pub rests : (σ : M .State) (π : Pointers) → F .Like σ π → Cost (M .rested σ .moves)
 
--- two machines whose turns go to the same node, from states that are In; Out is what is known of the states that are left, and Cost of the moves of both
+-- two machines whose turns go to the same node, from states that are In; Out is
+-- what is known of the states that are left, and Cost of the moves of both
 pub record Pair (p : Plan) (M N : Machine) (In Out : M .State → N .State → Type 0) (Cost : ℕ → ℕ → Type 0) : Type 0 where
   pub none : Cost 0 0
   pub stays : (σ : M .State) (τ : N .State) → In σ τ → Out σ τ

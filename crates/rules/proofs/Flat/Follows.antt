@@ -1,5 +1,5 @@
--- A turn machine that follows the flat rule: its states are tied to the flat hub's pointers, and it grants the flat hub's node. What is proved over such a
--- machine holds of the flat hub and of hub-by-hub control alike.
+-- A turn machine that follows the flat rule: its states are tied to the flat hub's pointers, and it grants the
+-- flat hub's node. What is proved over such a machine holds of the flat hub and of hub-by-hub control alike.
 use Prim.Native.Nat.{ℕ}
 use mathlib.Core.Path.{_≡_, refl}
 use mathlib.Core.Bool.{Bool, true, false}

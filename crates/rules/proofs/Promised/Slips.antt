@@ -1,5 +1,5 @@
--- Each wrong hub of "Slips of the turn list" is told from the right one by its run. And what the wrong hubs are made with is the right hub where nothing is
--- got wrong, so that each run shows the one rule that its hub gets wrong.
+-- Each wrong hub of "Slips of the turn list" is told from the right one by its run. And what the wrong hubs are made
+-- with is the right hub where nothing is got wrong, so that each run shows the one rule that its hub gets wrong.
 use Prim.Native.Nat.{ℕ, zero, suc, _+_, _≤_, _<_}
 use mathlib.Core.Path.{_≡_, refl, _∙_, fun-ext}
 use mathlib.Core.Bool.{Bool}

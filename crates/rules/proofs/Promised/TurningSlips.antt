@@ -1,4 +1,5 @@
--- Each wrong hub of `TurningSlips` is told from the right one by its run; its last run takes more moves than the old rule 2 did, which the right one never does.
+-- Each wrong hub of `TurningSlips` is told from the right one by its run; its last
+-- run takes more moves than the old rule 2 did, which the right one never does.
 -- And what they are made with is rule 2 where nothing is got wrong.
 use Prim.Native.Nat.{ℕ, zero, suc}
 use mathlib.Core.Path.{_≡_, refl}

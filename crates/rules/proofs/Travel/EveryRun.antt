@@ -1,5 +1,6 @@
--- Over every list of calls: in a run of grants of one class each call keeps to the round, and its moves are paid for by returns and by passings. Behind the
--- last return, or the first grant, the passings are at most two for each hub but the root. And the nodes granted tell the returns.
+-- Over every list of calls: in a run of grants of one class each call keeps to the round, and its
+-- moves are paid for by returns and by passings. Behind the last return, or the first grant, the
+-- passings are at most two for each hub but the root. And the nodes granted tell the returns.
 use Prim.Native.Nat.{ℕ, _+_, _-_, _*_, _≤_}
 use mathlib.Core.Path.{_≡_, refl, sym, ap, ap₂, _∙_, subst}
 use mathlib.Core.Bool.{true}

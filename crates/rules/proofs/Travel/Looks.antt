@@ -1,5 +1,5 @@
--- A look from a pointer without mark: what the walk comes to, and the returns of the root's pointer in it. No hub is resumed, so the next look is from a pointer
--- without mark too.
+-- A look from a pointer without mark: what the walk comes to, and the returns of the root's
+-- pointer in it. No hub is resumed, so the next look is from a pointer without mark too.
 use Prim.Native.Nat.{ℕ, suc, _+_, _≤_}
 use mathlib.Core.Path.{_≡_, refl, ap, _∙_}
 use mathlib.Core.Bool.{Bool, false}

@@ -1,4 +1,5 @@
--- One more turn of the class of the latest grant, from behind the node that was granted: it keeps to the round, and its node tells the returns.
+-- One more turn of the class of the latest grant, from behind the node that
+-- was granted: it keeps to the round, and its node tells the returns.
 use Prim.Native.Nat.{ℕ}
 use mathlib.Core.Path.{_≡_, sym, ap, subst}
 use mathlib.Core.Bool.{Bool, true}

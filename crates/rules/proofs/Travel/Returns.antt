@@ -1,5 +1,5 @@
--- Where the root's pointer returns in a walk from a pointer without mark: once, if nothing counts behind the search, and else not at all. So the node that is
--- granted tells it: it stands behind the search just where there was no return.
+-- Where the root's pointer returns in a walk from a pointer without mark: once, if nothing counts behind the search, and
+-- else not at all. So the node that is granted tells it: it stands behind the search just where there was no return.
 use Prim.Native.Nat.{ℕ, zero, suc, _+_, _≤_, _<_}
 use mathlib.Core.Path.{_≡_, refl}
 use mathlib.Core.Bool.{Bool, true}

@@ -1,5 +1,5 @@
--- A round, from a return of the root's pointer to the next, of grants of one class. No hub is resumed in it, so control passes at most twice between a hub and
--- its parent: down as the hub is entered, and up as it hands up, behind the last of its nodes.
+-- A round, from a return of the root's pointer to the next, of grants of one class. No hub is resumed in it, so control passes
+-- at most twice between a hub and its parent: down as the hub is entered, and up as it hands up, behind the last of its nodes.
 use Prim.Native.Nat.{ℕ, zero, suc, _+_, _-_, _*_, _≤_, _<_}
 use mathlib.Core.Path.{_≡_, refl, sym, ap, _∙_, subst}
 use native.Mathlib.Omega.{arith}
@@ -45,8 +45,9 @@ module _ (p : Plan) where
   total v = sum (p .hubs) v
 
 module _ (p : Plan) (D : Drawn p) (c : Class) where
-  -- The holder looks from a port without mark. `passings` has, for each hub, at least how often control has passed between it and its parent since the round, or
-  -- the run, began: a hub on the holder's line hasn't been left, and a hub off it with nodes ahead hasn't been entered
+  -- The holder looks from a port without mark. `passings` has, for each hub, at least how often
+  -- control has passed between it and its parent since the round, or the run, began: a hub on the
+  -- holder's line hasn't been left, and a hub off it with nodes ahead hasn't been entered
   pub record Tour (σ : Control) : Type 0 where
     pub latest : σ .latest ≡ c
     pub port : ℕ

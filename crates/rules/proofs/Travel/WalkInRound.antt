@@ -15,7 +15,8 @@ use Rattle.rules.proofs.Travel.Looks.{unmarked-round, Looked, grants, e
 use Rattle.rules.proofs.Travel.Rounds.{total, Tour, begins, Onward, on-granted, on-entered, on-up, round-up}
 
 module _ (p : Plan) (D : Drawn p) (c : Class) where
-  -- a turn with w returns, from passings v, where m moves were made before it: the passings that it adds, and a whole round's for each return, pay for its moves
+  -- a turn with w returns, from passings v, where m moves were made before it: the
+  -- passings that it adds, and a whole round's for each return, pay for its moves
   pub record Toured (v : ℕ → ℕ) (m w : ℕ) (t : Turn Control) : Type 0 where
     pub tour : Tour p D c (t .state)
     pub cost : t .moves + total p v ≤ m + 2 * (p .hubs - 1) * w + total p (tour .passings)

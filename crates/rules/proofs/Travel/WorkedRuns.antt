@@ -1,4 +1,5 @@
--- The worked runs, by one computation. A lesser bound would be passed by those that are runs, and the bound is passed where a run is broken.
+-- The worked runs, by one computation. A lesser bound would be passed by
+-- those that are runs, and the bound is passed where a run is broken.
 use mathlib.Core.Path.{_≡_, refl, sym}
 use mathlib.Core.Bool.{true}
 use mathlib.Core.List.{List, [], _∷_, _++_}

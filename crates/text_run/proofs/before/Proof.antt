@@ -1,4 +1,5 @@
--- `text_run::before` meets its contract: a line that is no event has no steps, and an event those of the budget up to its time. Assumes nothing.
+-- `text_run::before` meets its contract: a line that is no event has no
+-- steps, and an event those of the budget up to its time. Assumes nothing.
 use Rattle.text_run.proofs.EventLaws.{before-none, before-event}
 use borrow.Author.Needs.{needs}
 use Rattle.text_run.proofs.before.Statement.{statement}

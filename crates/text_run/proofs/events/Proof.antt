@@ -1,5 +1,7 @@
--- `text_run::events` meets its contract: a walk of its MIR, by hand, with a loop. A reader is made in a local; each pass lends it to `next` (`reader`'s Lending.antt), and the table and the buffer to `proceed` (Lent.antt), and has them back.
--- The invariant: the run from the start is the run from the reader's place on, with fuel for every line that can be left, and the buffer keeps its length. The variant is that fuel.
+-- `text_run::events` meets its contract: a walk of its MIR, by hand, with a loop. A reader is made in a local; each pass
+-- lends it to `next` (`reader`'s Lending.antt), and the table and the buffer to `proceed` (Lent.antt), and has them back.
+-- The invariant: the run from the start is the run from the reader's place on, with fuel for
+-- every line that can be left, and the buffer keeps its length. The variant is that fuel.
 -- All that the proof knows of `new`, `next` and `proceed` is that each meets its contract.
 -- Assumes nothing.
 use mathlib.Core.Path.{_≡_, refl, sym, ap, subst, _∙_}
@@ -232,7 +234,8 @@ module _ {M : Type 1} (𝓤 : URA M) (H : Heap 𝓤) (A : Atoms 𝓤) (W : Given
         use3 W (L.Lends 𝓤 H A W at-mem run κ₀ q₀ l₉ (h t)) (L.lends 𝓤 H A W at-mem run κ₀ q₀ l₉ (h t)) $ await ! tt $ pick ! (λ ν. pick ! (λ γ. split ! $
         calls-at ! (fmOf 𝓤 H (W .laws) 𝓣) (L.Next 𝓤 H A at-mem run) known-next (L.to-next 𝓤 H A W at-mem run κ₀ q₀ l₉ (h t) ν γ) (and-then ! (load ! (from ! (stop !)) (look ! 12 refl)) (no-more !)) (λ u₁.
         use2 W (L.Back 𝓤 H A W at-mem run κ₀ q₀ l₉ (h t) u₁) (L.comes-back 𝓤 H A W at-mem run κ₀ q₀ l₉ (h t) ν γ u₁) $ await ! tt $ pick ! (λ l. learn ! (λ e. split ! $ move ! (1 ∷ []) $ split ! $ move ! (1 ∷ []) $ split ! $ move ! (3 ∷ []) $
-        -- [what the line owns; the reader's; the text's token; the reader; the table; its token; the buffer; its token; the plan; its token; the text; z; _11; _12; _14 to _21; _0 to _8; _13; that each local dies]
+        -- [what the line owns; the reader's; the text's token; the reader; the table; its token; the buffer; its
+        -- token; the plan; its token; the text; z; _11; _12; _14 to _21; _0 to _8; _13; that each local dies]
         peeks ! (N.the-row (has.α κ₀)) (Is (N.the-row (has.α κ₀))) (shows 𝓤 H A (N.the-row (has.α κ₀))) l (u₁ ∷ []) (λ k.
         land ! (from ! (stop !)) (init ! 12 refl (LL.lawful (N.the-type αᵉ) (N′.the-laws αᵉ) 𝓤 H A W .typed l _ k .0)) $
         rewrite ! 0 (λ (us : List Val). ‵ (N.the-row (has.α κ₀) .own l us)) (LL.tells (N.the-type (has.α κ₀)) (N′.the-laws (has.α κ₀)) l _ k) refl $ rewrite ! 12 (λ (x : Val). ‵ (fat fullShare (N′.mir erased) l₁₁ 0 x)) (ap only (LL.tells (N.the-type (has.α κ₀)) (N′.the-laws (has.α κ₀)) l _ k)) refl $

@@ -1,5 +1,5 @@
--- `text_run::log_fits` meets its contract: every log fits in 18 × 65,536 bytes, and the pass that measures answers as writing the log would, and changes no
--- byte. Assumes nothing.
+-- `text_run::log_fits` meets its contract: every log fits in 18 × 65,536 bytes, and the pass
+-- that measures answers as writing the log would, and changes no byte. Assumes nothing.
 use Rattle.text_run.proofs.TwoPasses.{large-room, found-room, found-short}
 use native.Mathlib.Omega.{arith}
 use borrow.Author.Needs.{needs}

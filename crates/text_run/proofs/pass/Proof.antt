@@ -1,4 +1,5 @@
--- `text_run::pass` meets its contract: what `handed`, `plan::read`, `first_line` and `behind_plan` say, one behind the other. Assumes nothing.
+-- `text_run::pass` meets its contract: what `handed`, `plan::read`,
+-- `first_line` and `behind_plan` say, one behind the other. Assumes nothing.
 use Prim.Native.Nat.{ℕ}
 use mathlib.Core.Path.{ap, _∙_}
 use mathlib.Core.List.{List}

@@ -1,4 +1,5 @@
--- `text_run::run` meets its contract: nothing is touched where the log doesn't fit, and the second pass writes it whole where it does. Assumes nothing.
+-- `text_run::run` meets its contract: nothing is touched where the log doesn't
+-- fit, and the second pass writes it whole where it does. Assumes nothing.
 use mathlib.Core.Path.{sym, _∙_}
 use borrow.Author.Tests.{not-true, not-false}
 use Rattle.text_run.proofs.TwoPasses.{not-written, written-whole}

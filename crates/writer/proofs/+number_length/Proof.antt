@@ -1,4 +1,5 @@
--- `text::number_length` meets its contract, and ends since the number falls: a number of two digits or more has one more than its tenth part.
+-- `text::number_length` meets its contract, and ends since the number
+-- falls: a number of two digits or more has one more than its tenth part.
 -- Assumes nothing.
 use mathlib.Core.Path.{_≡_, sym, ap, _∙_}
 use mathlib.Core.List.{[], _∷_}

@@ -1,5 +1,5 @@
--- `writer::put_form` meets its contract: where the whole line fits it writes the word and then the numbers behind it, or only measures them, and
--- else it changes nothing. Assumes nothing.
+-- `writer::put_form` meets its contract: where the whole line fits it writes the word and then
+-- the numbers behind it, or only measures them, and else it changes nothing. Assumes nothing.
 use mathlib.Core.Path.{_≡_, sym, ap, _∙_}
 use mathlib.Core.List.{List, []}
 use Prim.Native.Nat.{ℕ, _+_, _-_, _≤_}

@@ -1,5 +1,5 @@
--- The hub reader and the port reader meet their contracts. Lines left fall: a hub reader at n lines calls a port reader at n - 1, which calls a hub reader at
--- as many. Each return is a law of ReaderLaws or PortLaws.
+-- The hub reader and the port reader meet their contracts. Lines left fall: a hub reader at n lines calls a
+-- port reader at n - 1, which calls a hub reader at as many. Each return is a law of ReaderLaws or PortLaws.
 use borrow.Author.Needs.{needs}
 use native.Mathlib.Omega.{arith}
 use Prim.Native.Nat.{ℕ, _<_, _+_, _-_}
