@@ -1,7 +1,44 @@
 // The cascade's table, and what its functions answer. specs/ says what stands where and what each call leaves.
 
-// The table that a caller lends: see specs/Layout.antt for what stands where.
-pub type Cascade = [u32; 1160];
+// The table that a caller lends: see specs/Layout.antt for what stands where. The places below are the same numbers, and stand nowhere else.
+pub type Cascade = [u32; CELLS];
+
+pub const CELLS: usize = 1160;
+
+// The clock and the end of a busy line take two cells each, the low 32 bits first.
+pub const CLOCK: usize = 0;
+
+pub const END: usize = 2;
+
+pub const BUSY: usize = 4;
+
+pub const HOLDER: usize = 5;
+
+pub const CLASS: usize = 6;
+
+pub const STANDING: usize = 7;
+
+// Hub g's cells begin at HUBS + (g - 1) * PER_HUB: two masks and two pointers, of the normal class first.
+pub const HUBS: usize = 8;
+
+pub const PER_HUB: usize = 4;
+
+pub const MASK: usize = 0;
+
+pub const POINTER: usize = 2;
+
+// Node k's cells begin at NODES + (k - 1) * PER_NODE.
+pub const NODES: usize = 136;
+
+pub const PER_NODE: usize = 4;
+
+pub const REQUEST: usize = 0;
+
+pub const FORCE: usize = 1;
+
+pub const LATEST: usize = 2;
+
+pub const GRANTED: usize = 3;
 
 // The due instant.
 pub enum Due {

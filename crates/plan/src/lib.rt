@@ -51,7 +51,44 @@ pub enum Part {
 }
 
 // The tables of a plan: see specs/Tables.antt for what stands where.
-pub type Plan = [u32; 1672];
+pub type Plan = [u32; CELLS];
+
+pub const CELLS: usize = 1672;
+
+// The figures: T, O, D, N and H.
+pub const FRAME: usize = 0;
+
+pub const OVERHEAD: usize = 1;
+
+pub const INTERRUPT: usize = 2;
+
+pub const NODE_COUNT: usize = 3;
+
+pub const HUB_COUNT: usize = 4;
+
+// Hub g's cells begin at HUBS + (g - 1) * PER_HUB: how many ports it has, its parent, the port there, its level; port q is at PORT + q.
+pub const HUBS: usize = 8;
+
+pub const PER_HUB: usize = 36;
+
+pub const PORT_COUNT: usize = 0;
+
+pub const PARENT: usize = 1;
+
+pub const PLACE: usize = 2;
+
+pub const LEVEL: usize = 3;
+
+pub const PORT: usize = 3;
+
+// Node k's cells begin at NODES + (k - 1) * PER_NODE: its hub, and its port there.
+pub const NODES: usize = 1160;
+
+pub const PER_NODE: usize = 2;
+
+pub const NODE_HUB: usize = 0;
+
+pub const NODE_PORT: usize = 1;
 
 // A figure that was read, and where the next line starts; or a line is refused.
 pub enum Figure {
