@@ -103,7 +103,7 @@ def stands_on(files):
     links = []
     for file in files:
         own = file.split('/')[1]
-        uses = re.findall(r'^use Rattle·([a-z]+)(?:·proofs\.proofs|\.proofs)\.([A-Za-z0-9.]+?)(?:\.\{| as |$)', (ROOT / file).read_text(), re.M)
+        uses = re.findall(r'^use Rattle·([a-z_]+)(?:·proofs\.proofs|\.proofs)\.([A-Za-z0-9.]+?)(?:\.\{| as |$)', (ROOT / file).read_text(), re.M)
         for crate, module in uses:
             at = f'crates/{crate}/proofs/{module.replace(".", "/")}.antt'
             words = module if crate == own else f'{crate} {module}'

@@ -1,17 +1,20 @@
-"""The vectors, with their own logs; where request 4 of document 02 changed one, that of after-4."""
+"""The vectors, with their own logs: a text that stands in several folders has the log of the request that landed last (tools/landed)."""
 from .case import Cases
 from .suite import ROOT
 
 cases = Cases()
 
-BEFORE = ROOT.parent / 'shared/vectors'
-AFTER = BEFORE / 'after-4'
+VECTORS = ROOT.parent / 'shared/vectors'
+
+
+def landed():
+    lines = (ROOT / 'tools/landed').read_text().splitlines()
+    return [int(line) for line in lines if line and not line.startswith('#')]
 
 
 def latest_texts():
-    names = {path.name for folder in (BEFORE, AFTER) for path in folder.glob('*.text')}
-    paths = [AFTER / name if (AFTER / name).exists() else BEFORE / name for name in names]
-    return sorted(paths, key=lambda path: path.stem)
+    latest = {path.name: path for folder in [VECTORS, *(VECTORS / f'after-{n}' for n in landed())] for path in folder.glob('*.text')}
+    return sorted(latest.values(), key=lambda path: path.stem)
 
 
 for path in latest_texts():

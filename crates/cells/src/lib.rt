@@ -1,6 +1,7 @@
 // The cascade's table, and what its functions answer. specs/ says what stands where and what each call leaves.
 
-// The table that a caller lends: see specs/Layout.antt for what stands where. The places below are the same numbers, and stand nowhere else.
+// The table that a caller lends: see specs/Layout.antt for what stands where.
+// The places below are the same numbers, and stand nowhere else.
 pub type Cascade = [u32; CELLS];
 
 pub const CELLS: usize = 1160;
