@@ -6,10 +6,16 @@ pub type Cascade = [u32; CELLS];
 
 pub const CELLS: usize = 1160;
 
-// The clock and the end of a busy line take two cells each, the low 32 bits first.
+// The clock and the end of a busy line take two cells each, the low 32 bits first: such a time is low + high * TWO_32.
 pub const CLOCK: usize = 0;
 
+pub const CLOCK_HIGH: usize = 1;
+
 pub const END: usize = 2;
+
+pub const END_HIGH: usize = 3;
+
+pub const TWO_32: u64 = 4294967296;
 
 pub const BUSY: usize = 4;
 
@@ -26,7 +32,19 @@ pub const PER_HUB: usize = 4;
 
 pub const MASK: usize = 0;
 
+pub const HIGH_MASK: usize = 1;
+
 pub const POINTER: usize = 2;
+
+pub const HIGH_POINTER: usize = 3;
+
+// A pointer is its port * PER_PORT, and MARK more where it is marked.
+pub const PER_PORT: u32 = 2;
+
+pub const MARK: u32 = 1;
+
+// Port 1 without mark, where a hub starts afresh.
+pub const PORT_1: u32 = 2;
 
 // Node k's cells begin at NODES + (k - 1) * PER_NODE.
 pub const NODES: usize = 136;
@@ -40,6 +58,24 @@ pub const FORCE: usize = 1;
 pub const LATEST: usize = 2;
 
 pub const GRANTED: usize = 3;
+
+// A request is NORMAL + b or HIGH + b; below NORMAL none stands.
+pub const NORMAL: u32 = 65536;
+
+pub const HIGH: u32 = 131072;
+
+// A reservation is n * HALF + b.
+pub const HALF: u32 = 65536;
+
+// The greatest count of high grants: no reservation allows more.
+pub const MOST_GRANTED: u32 = 65535;
+
+// What the table has cells for; a mask has as many bits as a hub has ports at most.
+pub const MOST_HUBS: u32 = 32;
+
+pub const MOST_PORTS: u32 = 32;
+
+pub const MOST_NODES: u32 = 256;
 
 // The due instant.
 pub enum Due {

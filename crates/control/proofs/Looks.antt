@@ -1,5 +1,5 @@
 -- One look at a hub, by what is found there: a law for each case of the definitions of `cells`.
-use Prim.Native.Nat.{ℕ, _+_, _-_, _*_, _/_, _<_, _≤_}
+use Prim.Native.Nat.{ℕ, _+_, _-_, _/_, _<_, _≤_}
 use mathlib.Core.Path.{_≡_, refl, sym, ap, subst}
 use mathlib.Core.Bool.{Bool, true, false}
 use mathlib.Core.List.{List}
@@ -7,6 +7,7 @@ use native.Mathlib.Omega.{arith}
 use borrow.Author.Tests.{lt-ltb, le-ltb, le-leb, lt-leb, eq-eqb, ne-eqb}
 use mir.Val.{boolByte}
 use lib.ListN.{getD, set}
+use Rattle.rules.specs.Plan.{most-hubs, most-ports}
 use Rattle.ports.specs.Mask.{shows, digit}
 use Rattle.ports.specs.Ports.{atOrAfter}
 use Rattle.ports.specs.Search.{lowestFrom}
@@ -16,7 +17,7 @@ use Rattle.ports.proofs.Answers.{Answers, first-answers}
 use Rattle.plan.specs.Tables as plan
 use Rattle.cells.specs.declared.Look.{Look}
 use Rattle.cells.specs.declared.Look.the-variants.{Node, Pass, Round, Stop}
-use Rattle.cells.specs.Layout.{maskCell, pointerCell}
+use Rattle.cells.specs.Layout.{maskCell, pointerCell, unmarkedCode, markedCode}
 use Rattle.cells.specs.Turns.{Looked, downBy, takeBy, upBy, handUpBy, foundBy, lookBy}
 
 -- the code's number of a class is that of the definitions
@@ -29,7 +30,7 @@ byte-below-2 true = omega arith
 byte-below-2 false = omega arith
 
 -- what is found is a port
-pub found-port : (f : ℕ → Bool) (pointer q : ℕ) → lowestFrom f pointer ≡ found.Port q → (1 ≤ q) × (q ≤ 32)
+pub found-port : (f : ℕ → Bool) (pointer q : ℕ) → lowestFrom f pointer ≡ found.Port q → (1 ≤ q) × (q ≤ most-ports)
 unfolding lowestFrom
 found-port f pointer q e =
     let a = subst (λ (r : Found). Answers (atOrAfter pointer f) 1 33 r) e (first-answers 32 (atOrAfter pointer f) 1 33 refl) in
@@ -41,11 +42,11 @@ looked e = (sym (ap (λ (w : Looked). w .look) e), sym (ap (λ (w : Looked). w .
 
 module _ (high : Bool) (g q : ℕ) (s : List ℕ) where
   module _ (h at : ℕ) (e : at ≡ pointerCell high g) where
-    pub down-resumed : getD s at 0 ≡ q * 2 + 1 → set s at (q * 2 + 1) ≡ downBy high g q h s
+    pub down-resumed : getD s at 0 ≡ markedCode q → set s at (markedCode q) ≡ downBy high g q h s
     unfolding downBy
     down-resumed same = rw e (let f = rw e at same in simp (eq-eqb _ _ f))
 
-    pub down-afresh : (getD s at 0 ≡ q * 2 + 1 → ⊥) → set (set s at (q * 2 + 1)) (pointerCell high h) 2 ≡ downBy high g q h s
+    pub down-afresh : (getD s at 0 ≡ markedCode q → ⊥) → set (set s at (markedCode q)) (pointerCell high h) (unmarkedCode 1) ≡ downBy high g q h s
     unfolding downBy
     down-afresh other = rw e (let f = rw e at other in simp (ne-eqb _ _ f))
 
@@ -54,17 +55,17 @@ module _ (high : Bool) (g q : ℕ) (s : List ℕ) where
     unfolding takeBy
     take-empty none = simp (eq-eqb _ _ none)
 
-    pub take-node : (x ≡ 0 → ⊥) → x ≤ 256
-        → takeBy high g q (plan.portOf x) s ≡ record { look = Node x; cells = set s (pointerCell high g) ((q + 1) * 2) }
+    pub take-node : (x ≡ 0 → ⊥) → x ≤ plan.hub-code
+        → takeBy high g q (plan.portOf x) s ≡ record { look = Node x; cells = set s (pointerCell high g) (unmarkedCode (q + 1)) }
     unfolding takeBy
     take-node some low = simp (ne-eqb _ _ some, le-leb _ _ low)
 
-    pub take-beyond : 256 < x → 32 < x - 256 → takeBy high g q (plan.portOf x) s ≡ record { look = Stop; cells = s }
+    pub take-beyond : plan.hub-code < x → most-hubs < x - plan.hub-code → takeBy high g q (plan.portOf x) s ≡ record { look = Stop; cells = s }
     unfolding takeBy
     take-beyond above far = simp (ne-eqb x 0 (omega arith), lt-leb _ _ above, lt-ltb _ _ far)
 
-    pub take-hub : 256 < x → x - 256 ≤ 32
-        → takeBy high g q (plan.portOf x) s ≡ record { look = Pass (x - 256); cells = downBy high g q (x - 256) s }
+    pub take-hub : plan.hub-code < x → x - plan.hub-code ≤ most-hubs
+        → takeBy high g q (plan.portOf x) s ≡ record { look = Pass (x - plan.hub-code); cells = downBy high g q (x - plan.hub-code) s }
     unfolding takeBy
     take-hub above near = simp (ne-eqb x 0 (omega arith), lt-leb _ _ above, le-ltb _ _ near)
 
@@ -74,21 +75,21 @@ module _ (high : Bool) (h q : ℕ) (s : List ℕ) where
   unfolding upBy
   up-none none = simp (lt-ltb _ _ none)
 
-  pub up-beyond : 1 ≤ h → 32 < h → upBy high h q s ≡ record { look = Stop; cells = s }
+  pub up-beyond : 1 ≤ h → most-hubs < h → upBy high h q s ≡ record { look = Stop; cells = s }
   unfolding upBy
   up-beyond some far = simp (le-ltb _ _ some, lt-ltb _ _ far)
 
-  pub up-no-port : 1 ≤ h → h ≤ 32 → 32 < q → upBy high h q s ≡ record { look = Stop; cells = s }
+  pub up-no-port : 1 ≤ h → h ≤ most-hubs → most-ports < q → upBy high h q s ≡ record { look = Stop; cells = s }
   unfolding upBy
   up-no-port some near far = simp (le-ltb _ _ some, le-ltb _ _ near, lt-ltb _ _ far)
 
-  pub up-passes : 1 ≤ h → h ≤ 32 → q ≤ 32
-      → upBy high h q s ≡ record { look = Pass h; cells = set s (pointerCell high h) ((q + 1) * 2) }
+  pub up-passes : 1 ≤ h → h ≤ most-hubs → q ≤ most-ports
+      → upBy high h q s ≡ record { look = Pass h; cells = set s (pointerCell high h) (unmarkedCode (q + 1)) }
   unfolding upBy
-  up-passes some near port = simp (le-ltb h 1 some, le-ltb 32 h near, le-ltb 32 q port)
+  up-passes some near port = simp (le-ltb h 1 some, le-ltb most-hubs h near, le-ltb most-ports q port)
 
 module _ (P : List ℕ) (high : Bool) (g : ℕ) (s : List ℕ) where
-  pub root-round : g ≡ 1 → handUpBy P high g s ≡ record { look = Round; cells = set s (pointerCell high 1) 2 }
+  pub root-round : g ≡ 1 → handUpBy P high g s ≡ record { look = Round; cells = set s (pointerCell high 1) (unmarkedCode 1) }
   unfolding handUpBy
   root-round e = simp (eq-eqb _ _ e)
 

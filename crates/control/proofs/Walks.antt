@@ -1,16 +1,18 @@
 -- The walk from hub to hub, rule 2 and what a turn leaves: a law for each case of the definitions of `cells`.
-use Prim.Native.Nat.{ℕ, suc, _+_, _-_, _*_, _/_, _%_, _<_, _≤_}
+use Prim.Native.Nat.{ℕ, suc, _+_, _-_, _/_, _%_, _<_, _≤_}
 use mathlib.Core.Path.{_≡_, sym, ap, _∙_}
 use mathlib.Core.Bool.{Bool}
 use mathlib.Core.List.{List}
 use native.Mathlib.Omega.{arith}
 use borrow.Author.Tests.{lt-ltb, le-ltb, eq-eqb, ne-eqb}
 use lib.ListN.{getD, set}
+use Rattle.rules.specs.Plan.{most-hubs}
+use Rattle.rules.specs.Control.{most-looks}
 use Rattle.ports.specs.Mask.{digit}
 use Rattle.cells.specs.declared.Look.the-variants.{Node, Pass, Round, Stop}
 use Rattle.cells.specs.declared.Turn.{Turn}
 use Rattle.plan.specs.Tables.{hubCell}
-use Rattle.cells.specs.Layout.{pointerCell}
+use Rattle.cells.specs.Layout.{holder-cell, class-cell, pointerCell, markedCode}
 use Rattle.cells.specs.Turns.{Turned, lookBy, afterLook, walkBy, climbBy, nearerBy, nearestBy, turningBy, walked, settled, chooseBy}
 
 -- a walk that is known, taken apart as the contracts say it
@@ -35,11 +37,11 @@ module _ (P : List ℕ) (high : Bool) (looks g moves : ℕ) (s : List ℕ) where
     unfolding walkBy
     walk-no-hub h = rw one-more (simp (lt-ltb _ _ h))
 
-    pub walk-beyond : 1 ≤ g → 32 < g → walkBy P high looks g moves s ≡ stays 0 g moves s
+    pub walk-beyond : 1 ≤ g → most-hubs < g → walkBy P high looks g moves s ≡ stays 0 g moves s
     unfolding walkBy
     walk-beyond l h = rw one-more (simp (le-ltb _ _ l, lt-ltb _ _ h))
 
-    module _ (l : 1 ≤ g) (h : g ≤ 32) where
+    module _ (l : 1 ≤ g) (h : g ≤ most-hubs) where
       walk-looks : walkBy P high looks g moves s
           ≡ afterLook P high (walkBy P high (looks - 1)) g moves (lookBy P high g s .look) (lookBy P high g s .cells)
       unfolding walkBy
@@ -65,21 +67,21 @@ module _ (P : List ℕ) (high : Bool) (looks g moves : ℕ) (s : List ℕ) where
         walk-stops e = walk-looks ∙ rw (e, left)
 
 module _ (P : List ℕ) (high : Bool) (s : List ℕ) where
-  pub class-kept : getD s 6 0 ≡ digit high → walked P high s ≡ walkBy P high 15 (getD s 5 0) 0 s
+  pub class-kept : getD s class-cell 0 ≡ digit high → walked P high s ≡ walkBy P high most-looks (getD s holder-cell 0) 0 s
   unfolding walked
   class-kept e = simp (eq-eqb _ _ e)
 
-  pub class-changed : (getD s 6 0 ≡ digit high → ⊥)
-      → (hub moves : ℕ) → hub ≡ turningBy P high s → moves ≡ climbBy P (getD s 5 0) - climbBy P hub → walked P high s ≡ walkBy P high 15 hub moves s
+  pub class-changed : (getD s class-cell 0 ≡ digit high → ⊥)
+      → (hub moves : ℕ) → hub ≡ turningBy P high s → moves ≡ climbBy P (getD s holder-cell 0) - climbBy P hub → walked P high s ≡ walkBy P high most-looks hub moves s
   unfolding walked
   class-changed e hub moves h m = rw (m, h) (simp (ne-eqb _ _ e))
 
 module _ (high : Bool) (t : Turn) (s : List ℕ) where
-  pub nobody-granted : t .node ≡ 0 → settled high t s ≡ set s 5 (t .hub)
+  pub nobody-granted : t .node ≡ 0 → settled high t s ≡ set s holder-cell (t .hub)
   unfolding settled
   nobody-granted e = simp (eq-eqb _ _ e)
 
-  pub class-settled : (t .node ≡ 0 → ⊥) → settled high t s ≡ set (set s 5 (t .hub)) 6 (digit high)
+  pub class-settled : (t .node ≡ 0 → ⊥) → settled high t s ≡ set (set s holder-cell (t .hub)) class-cell (digit high)
   unfolding settled
   class-settled e = simp (ne-eqb _ _ e)
 
@@ -87,10 +89,10 @@ module _ (P : List ℕ) (g : ℕ) where
   pub climb-none : g < 1 → 0 ≡ climbBy P g
   climb-none h = simp (lt-ltb _ _ h)
 
-  pub climb-beyond : 1 ≤ g → 32 < g → 0 ≡ climbBy P g
+  pub climb-beyond : 1 ≤ g → most-hubs < g → 0 ≡ climbBy P g
   climb-beyond l h = simp (le-ltb _ _ l, lt-ltb _ _ h)
 
-  pub climb-levels : 1 ≤ g → g ≤ 32 → getD P (hubCell g 3) 0 - 1 ≡ climbBy P g
+  pub climb-levels : 1 ≤ g → g ≤ most-hubs → getD P (hubCell g 3) 0 - 1 ≡ climbBy P g
   climb-levels l h = simp (le-ltb _ _ l, le-ltb _ _ h)
 
 -- a turn by rule 2 that is settled is the one chosen
@@ -104,15 +106,15 @@ chosen P high s {x} {t} {u} e f h = (e, h ∙ rw (e, f))
 module _ (x g q t : ℕ) where
   pub nearer-unmarked : x % 2 ≡ 0 → g ≡ nearerBy x g q t
   unfolding nearerBy
-  nearer-unmarked e = simp (ne-eqb x (q * 2 + 1) (λ i. omega arith))
+  nearer-unmarked e = simp (ne-eqb x (markedCode q) (λ i. omega arith))
 
   pub nearer-there : (x % 2 ≡ 0 → ⊥) → x / 2 ≡ q → t ≡ nearerBy x g q t
   unfolding nearerBy
-  nearer-there m e = simp (eq-eqb x (q * 2 + 1) (omega arith))
+  nearer-there m e = simp (eq-eqb x (markedCode q) (omega arith))
 
   pub nearer-elsewhere : (x / 2 ≡ q → ⊥) → g ≡ nearerBy x g q t
   unfolding nearerBy
-  nearer-elsewhere e = simp (ne-eqb x (q * 2 + 1) (λ i. e (omega arith)))
+  nearer-elsewhere e = simp (ne-eqb x (markedCode q) (λ i. e (omega arith)))
 
 -- the way up the holder's line, by hub g
 module _ (P : List ℕ) (high : Bool) (levels g q t : ℕ) (s : List ℕ) where
@@ -128,11 +130,11 @@ module _ (P : List ℕ) (high : Bool) (levels g q t : ℕ) (s : List ℕ) where
     unfolding nearestBy
     line-no-hub h = rw one-level (simp (lt-ltb _ _ h))
 
-    pub line-beyond : 1 ≤ g → 32 < g → 1 ≡ nearestBy P high levels g q t s
+    pub line-beyond : 1 ≤ g → most-hubs < g → 1 ≡ nearestBy P high levels g q t s
     unfolding nearestBy
     line-beyond l h = rw one-level (simp (le-ltb _ _ l, lt-ltb _ _ h))
 
-    module _ (l : 1 ≤ g) (h : g ≤ 32) (u at : ℕ) (e : at ≡ pointerCell high g) (near : u ≡ nearerBy (getD s at 0) g q t) where
+    module _ (l : 1 ≤ g) (h : g ≤ most-hubs) (u at : ℕ) (e : at ≡ pointerCell high g) (near : u ≡ nearerBy (getD s at 0) g q t) where
       pub line-ends : g ≡ 1 → u ≡ nearestBy P high levels g q t s
       unfolding nearestBy
       line-ends r = rw (near, e, one-level) (simp (le-ltb _ _ l, le-ltb _ _ h, eq-eqb _ _ r))

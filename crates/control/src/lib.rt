@@ -7,33 +7,35 @@ use cells::Turn;
 use plan::Plan;
 use ports::Found;
 ghost use mathlib.Core.Path.{_≡_};
+ghost use mathlib.Core.Bool.{false};
 ghost use Prim.Native.Nat.{_+_, _-_, _≤_, _<_};
 ghost use lib.ListN.{getD, set};
+ghost use Rattle.rules.specs.Plan.{most-hubs, most-ports};
 ghost use Rattle.plan.specs.Tables.{portOf, portCell};
-ghost use Rattle.cells.specs.Layout.{maskCell, pointerCell};
+ghost use Rattle.cells.specs.Layout.{maskCell, pointerCell, nodeCell};
 ghost use Rattle.cells.specs.Turns.{downBy, takeBy, upBy, handUpBy, lookBy, walkBy, climbBy, nearerBy, nearestBy, walked, settled, chooseBy};
 
-// Where hub g's mask of a class stands.
+// Where hub g's mask of a class stands. The masks are the first of its cells.
 fn mask_cell(high: bool, g: u32) -> usize
-    requires { ⌜ (1 ≤ g) × (g ≤ 32) ⌝ }
+    requires { ⌜ (1 ≤ g) × (g ≤ most-hubs) ⌝ }
     ensures { λ r. ⌜ r ≡ maskCell high g ⌝ }
-    ensures { λ r. ⌜ r < 134 ⌝ }
+    ensures { λ r. ⌜ r < pointerCell false most-hubs ⌝ }
 {
-    8 + (g as usize - 1) * 4 + high as usize
+    cells::HUBS + (g as usize - 1) * cells::PER_HUB + high as usize
 }
 
-// Where its pointer of the class stands: two cells further.
+// Where its pointer of the class stands: as far behind the mask as the pointers begin behind the hub's first cell.
 fn pointer_cell(high: bool, g: u32) -> usize
-    requires { ⌜ (1 ≤ g) × (g ≤ 32) ⌝ }
+    requires { ⌜ (1 ≤ g) × (g ≤ most-hubs) ⌝ }
     ensures { λ r. ⌜ r ≡ pointerCell high g ⌝ }
-    ensures { λ r. ⌜ r < 136 ⌝ }
+    ensures { λ r. ⌜ r < nodeCell 1 0 ⌝ }
 {
-    mask_cell(high, g) + 2
+    mask_cell(high, g) + cells::POINTER
 }
 
 // Hub g's pointer of a class becomes x.
 fn point(s: &mut Cascade, high: bool, g: u32, x: u32)
-    requires { ⌜ (1 ≤ g) × (g ≤ 32) ⌝ }
+    requires { ⌜ (1 ≤ g) × (g ≤ most-hubs) ⌝ }
     ensures { λ _. ⌜ now (s .exit) ≡ set (now (s .entry)) (pointerCell high g) x ⌝ }
 {
     let at = pointer_cell(high, g);
@@ -42,38 +44,38 @@ fn point(s: &mut Cascade, high: bool, g: u32, x: u32)
 
 // Rule 3, a hub h found at port q of hub g: the pointer is that port, marked; h resumes if it was so before, and else starts afresh.
 fn go_down(s: &mut Cascade, high: bool, g: u32, q: u32, h: u32)
-    requires { ⌜ (1 ≤ g) × (g ≤ 32) ⌝ }
-    requires { ⌜ (1 ≤ q) × (q ≤ 32) ⌝ }
-    requires { ⌜ (1 ≤ h) × (h ≤ 32) ⌝ }
+    requires { ⌜ (1 ≤ g) × (g ≤ most-hubs) ⌝ }
+    requires { ⌜ (1 ≤ q) × (q ≤ most-ports) ⌝ }
+    requires { ⌜ (1 ≤ h) × (h ≤ most-hubs) ⌝ }
     ensures { λ _. ⌜ now (s .exit) ≡ downBy high g q h (now (s .entry)) ⌝ }
 {
     let at = pointer_cell(high, g);
     let before = s[at];
-    let marked = q * 2 + 1;
+    let marked = q * cells::PER_PORT + cells::MARK;
     s[at] = marked;
     if before == marked {
         return;
     }
-    point(s, high, h, 2);
+    point(s, high, h, cells::PORT_1);
 }
 
 // Rule 3 at port q of hub g.
 fn take(p: &Plan, s: &mut Cascade, high: bool, g: u32, q: u32) -> Look
-    requires { ⌜ (1 ≤ g) × (g ≤ 32) ⌝ }
-    requires { ⌜ (1 ≤ q) × (q ≤ 32) ⌝ }
+    requires { ⌜ (1 ≤ g) × (g ≤ most-hubs) ⌝ }
+    requires { ⌜ (1 ≤ q) × (q ≤ most-ports) ⌝ }
     ensures { λ r. ⌜ r ≡ takeBy high g q (portOf (getD (now (p .entry)) (portCell g q) 0)) (now (s .entry)) .look ⌝ }
     ensures { λ r. ⌜ now (s .exit) ≡ takeBy high g q (portOf (getD (now (p .entry)) (portCell g q) 0)) (now (s .entry)) .cells ⌝ }
 {
-    let x = p[8 + (g as usize - 1) * 36 + (3 + q as usize)];
+    let x = p[plan::HUBS + (g as usize - 1) * plan::PER_HUB + (plan::PORT + q as usize)];
     if x == 0 {
         return Look::Stop;
     }
-    if x <= 256 {
-        point(s, high, g, (q + 1) * 2);
+    if x <= plan::HUB_CODE {
+        point(s, high, g, (q + 1) * cells::PER_PORT);
         return Look::Node(x);
     }
-    let h = x - 256;
-    if 32 < h {
+    let h = x - plan::HUB_CODE;
+    if cells::MOST_HUBS < h {
         return Look::Stop;
     }
     go_down(s, high, g, q, h);
@@ -88,38 +90,38 @@ fn go_up(s: &mut Cascade, high: bool, h: u32, q: u32) -> Look
     if h < 1 {
         return Look::Stop;
     }
-    if 32 < h {
+    if cells::MOST_HUBS < h {
         return Look::Stop;
     }
-    if 32 < q {
+    if cells::MOST_PORTS < q {
         return Look::Stop;
     }
-    point(s, high, h, (q + 1) * 2);
+    point(s, high, h, (q + 1) * cells::PER_PORT);
     Look::Pass(h)
 }
 
 // Rule 4 at hub g: the root goes to port 1, another hands control up.
 fn hand_up(p: &Plan, s: &mut Cascade, high: bool, g: u32) -> Look
-    requires { ⌜ (1 ≤ g) × (g ≤ 32) ⌝ }
+    requires { ⌜ (1 ≤ g) × (g ≤ most-hubs) ⌝ }
     ensures { λ r. ⌜ r ≡ handUpBy (now (p .entry)) high g (now (s .entry)) .look ⌝ }
     ensures { λ r. ⌜ now (s .exit) ≡ handUpBy (now (p .entry)) high g (now (s .entry)) .cells ⌝ }
 {
     if g == 1 {
-        point(s, high, 1, 2);
+        point(s, high, 1, cells::PORT_1);
         return Look::Round;
     }
-    let own = 8 + (g as usize - 1) * 36;
-    go_up(s, high, p[own + 1], p[own + 2])
+    let own = plan::HUBS + (g as usize - 1) * plan::PER_HUB;
+    go_up(s, high, p[own + plan::PARENT], p[own + plan::PLACE])
 }
 
 // One look at hub g.
 fn look(p: &Plan, s: &mut Cascade, high: bool, g: u32) -> Look
-    requires { ⌜ (1 ≤ g) × (g ≤ 32) ⌝ }
+    requires { ⌜ (1 ≤ g) × (g ≤ most-hubs) ⌝ }
     ensures { λ r. ⌜ r ≡ lookBy (now (p .entry)) high g (now (s .entry)) .look ⌝ }
     ensures { λ r. ⌜ now (s .exit) ≡ lookBy (now (p .entry)) high g (now (s .entry)) .cells ⌝ }
 {
     let at = mask_cell(high, g);
-    match ports::lowest(s[at], s[at + 2] / 2) {
+    match ports::lowest(s[at], s[at + cells::POINTER] / cells::PER_PORT) {
         Found::Port(q) => take(p, s, high, g, q),
         Found::Nothing => hand_up(p, s, high, g),
     }
@@ -146,7 +148,7 @@ fn walk(p: &Plan, s: &mut Cascade, high: bool, g: u32, moves: u64, looks: u32) -
             moves,
         };
     }
-    if 32 < g {
+    if cells::MOST_HUBS < g {
         return Turn {
             node: 0,
             hub: g,
@@ -188,10 +190,10 @@ pub fn climb(p: &Plan, g: u32) -> u64
     if g < 1 {
         return 0;
     }
-    if 32 < g {
+    if cells::MOST_HUBS < g {
         return 0;
     }
-    moves_up(p[8 + (g as usize - 1) * 36 + 3])
+    moves_up(p[plan::HUBS + (g as usize - 1) * plan::PER_HUB + plan::LEVEL])
 }
 
 // Moves from hub g up to hub t of its line.
@@ -211,8 +213,8 @@ fn climb_to(p: &Plan, g: u32, t: u32) -> u64
 fn nearer(pointer: u32, g: u32, q: u32, t: u32) -> u32
     ensures { λ r. ⌜ r ≡ nearerBy pointer g q t ⌝ }
 {
-    let mark = pointer % 2;
-    let port = pointer / 2;
+    let mark = pointer % cells::PER_PORT;
+    let port = pointer / cells::PER_PORT;
     if mark == 0 {
         return g;
     }
@@ -232,15 +234,23 @@ fn nearest(p: &Plan, s: &Cascade, high: bool, g: u32, q: u32, t: u32, levels: u3
     if g < 1 {
         return 1;
     }
-    if 32 < g {
+    if cells::MOST_HUBS < g {
         return 1;
     }
     let u = nearer(s[pointer_cell(high, g)], g, q, t);
     if g == 1 {
         return u;
     }
-    let own = 8 + (g as usize - 1) * 36;
-    nearest(p, s, high, p[own + 1], p[own + 2], u, levels - 1)
+    let own = plan::HUBS + (g as usize - 1) * plan::PER_HUB;
+    nearest(
+        p,
+        s,
+        high,
+        p[own + plan::PARENT],
+        p[own + plan::PLACE],
+        u,
+        levels - 1,
+    )
 }
 
 // Rule 2: where the class sought differs from that of the latest grant, control goes up to the nearest hub first.
@@ -248,8 +258,8 @@ fn walk_from(p: &Plan, s: &mut Cascade, high: bool) -> Turn
     ensures { λ r. ⌜ r ≡ walked (now (p .entry)) high (now (s .entry)) .turn ⌝ }
     ensures { λ r. ⌜ now (s .exit) ≡ walked (now (p .entry)) high (now (s .entry)) .cells ⌝ }
 {
-    let holder = s[5];
-    if s[6] == high as u32 {
+    let holder = s[cells::HOLDER];
+    if s[cells::CLASS] == high as u32 {
         return walk(p, s, high, holder, 0, 15);
     }
     let hub = nearest(p, s, high, holder, 0, holder, 5);
@@ -261,11 +271,11 @@ fn walk_from(p: &Plan, s: &mut Cascade, high: bool) -> Turn
 fn settle(s: &mut Cascade, high: bool, t: Turn)
     ensures { λ _. ⌜ now (s .exit) ≡ settled high t (now (s .entry)) ⌝ }
 {
-    s[5] = t.hub;
+    s[cells::HOLDER] = t.hub;
     if t.node == 0 {
         return;
     }
-    s[6] = high as u32;
+    s[cells::CLASS] = high as u32;
 }
 
 // The turn of a class that is sought.

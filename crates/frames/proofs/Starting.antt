@@ -1,25 +1,24 @@
 -- A frame's start, one law a way through the tests: of one node, of nodes n to 1, and as the clock comes to a time.
-use Prim.Native.Nat.{ℕ, zero, suc, _+_, _-_, _*_, _≤_, _<_}
+use Prim.Native.Nat.{ℕ, zero, suc, _-_, _≤_, _<_}
 use mathlib.Core.Path.{_≡_, refl}
 use mathlib.Core.Bool.{true, false}
 use mathlib.Core.List.{List}
-use native.Mathlib.Nat.{add-zero}
 use native.Mathlib.Numerals.{unary-clauses}
 use lib.ListN.{getD}
 use borrow.Author.Tests.{lt-ltb, le-ltb}
-use Rattle.cells.specs.Layout.{clock-cell, putTime}
+use Rattle.cells.specs.Layout.{clock-cell, requestCell, putTime}
 use Rattle.cells.specs.Decode.{planIn}
 use Rattle.cells.specs.Masks.{mendNode}
 use Rattle.cells.specs.Frames.{startCells, startNode, startNodes, newFrame, advanceBy}
 
 module _ (P s : List ℕ) (k : ℕ) where
-  pub starts-low : getD s (136 + (k - 1) * 4) 0 < 131072 → startCells k s ≡ startNode P k s
+  pub starts-low : getD s (requestCell k) 0 < 131072 → startCells k s ≡ startNode P k s
   unfolding startNode
-  starts-low h = simp (add-zero, lt-ltb _ _ h)
+  starts-low h = simp (lt-ltb _ _ h)
 
-  pub starts-high : 131072 ≤ getD s (136 + (k - 1) * 4) 0 → mendNode P k (startCells k s) ≡ startNode P k s
+  pub starts-high : 131072 ≤ getD s (requestCell k) 0 → mendNode P k (startCells k s) ≡ startNode P k s
   unfolding startNode
-  starts-high h = simp (add-zero, le-ltb _ _ h)
+  starts-high h = simp (le-ltb _ _ h)
 
   pub starts-none : k ≡ 0 → s ≡ startNodes P k s
   unfolding startNodes

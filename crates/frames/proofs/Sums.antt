@@ -11,15 +11,15 @@ use Rattle.rules.specs.Choice.{sum}
 use Rattle.rules.specs.Rows.{load, loads}
 use Rattle.rules.proofs.Laws.Passes.{sum-same}
 use Rattle.plan.specs.Tables.{planOf}
-use Rattle.cells.specs.Layout.{shareOf, latestCell}
+use Rattle.cells.specs.Layout.{half, shareOf, latestCell}
 use Rattle.cells.specs.Decode.{planIn, coreOf}
 
 -- each load is below 2^50
 pub load-small :
-    (overhead share : ℕ) → overhead < 4294967296 → share < 4294967296 → share / 65536 * (share % 65536 + overhead) ≤ 1125899906842624
+    (overhead share : ℕ) → overhead < 4294967296 → share < 4294967296 → share / half * (share % half + overhead) ≤ 1125899906842624
 load-small overhead share o s =
-    let least : share / 65536 ≤ 65535 = omega arith in
-    let other : share % 65536 + overhead ≤ 4295032830 = omega arith in
+    let least : share / half ≤ 65535 = omega arith in
+    let other : share % half + overhead ≤ 4295032830 = omega arith in
     omega (arith, mul-le-mul least other)
 
 sum-more : (n : ℕ) (f : ℕ → ℕ) → (n ≡ 0 → ⊥) → sum (n - 1) f + f n ≡ sum n f
@@ -40,7 +40,7 @@ module _ (P s : List ℕ) (n : ℕ) where
   pub one-load-onto :
       (others own r : ℕ) →
       (n ≡ 0 → ⊥) →
-      own ≡ getD s (latestCell n) 0 / 65536 * (getD s (latestCell n) 0 % 65536 + getD P 1 0) →
+      own ≡ getD s (latestCell n) 0 / half * (getD s (latestCell n) 0 % half + getD P 1 0) →
       r ≡ others + own + sum (n - 1) (cellLoad P s) →
       r ≡ others + sum n (cellLoad P s)
   unfolding planOf

@@ -7,9 +7,10 @@ ghost use mathlib.Core.Path.{_≡_};
 ghost use Prim.Native.Nat.{_+_, _*_, _/_, _%_, _≤_, _<_};
 ghost use lib.ListN.{getD};
 ghost use Rattle.rules.specs.Choice.{sum};
+ghost use Rattle.rules.specs.Plan.{most-nodes};
 ghost use Rattle.rules.specs.Core.{reclassed};
 ghost use Rattle.rules.specs.Rows.{load, loads};
-ghost use Rattle.cells.specs.Layout.{requestOf, requestCode, shareOf, latestCell};
+ghost use Rattle.cells.specs.Layout.{half, requestOf, requestCode, shareOf, latestCell};
 ghost use Rattle.cells.specs.Decode.{planIn, coreOf};
 ghost use Rattle.cells.specs.Frames.{startCells, startNode, startNodes, newFrame, advanceBy};
 
@@ -17,8 +18,12 @@ ghost use Rattle.cells.specs.Frames.{startCells, startNode, startNodes, newFram
 pub fn nodes(p: &Plan) -> u32
     ensures { λ r. ⌜ r ≡ planIn (now (p .entry)) .nodes ⌝ }
 {
-    let n = p[3];
-    if n < 256 { n } else { 256 }
+    let n = p[plan::NODE_COUNT];
+    if n < cells::MOST_NODES {
+        n
+    } else {
+        cells::MOST_NODES
+    }
 }
 
 // The frame that a time lies in. A plan that was taken has no frame of 0.
@@ -35,42 +40,42 @@ pub fn frame_of(frame: u32, t: u64) -> u64
 fn reclassed(share: u32, x: u32) -> u32
     ensures { λ r. ⌜ r ≡ requestCode (reclassed (shareOf share) (requestOf x)) ⌝ }
 {
-    if x < 65536 {
+    if x < cells::NORMAL {
         return 0;
     }
-    let bits = x % 65536;
-    if x < 131072 {
-        return 65536 + bits;
+    let bits = x % cells::HALF;
+    if x < cells::HIGH {
+        return cells::NORMAL + bits;
     }
-    if share < 65536 {
-        return 65536 + bits;
+    if share < cells::HALF {
+        return cells::NORMAL + bits;
     }
-    if share % 65536 < bits {
-        return 65536 + bits;
+    if share % cells::HALF < bits {
+        return cells::NORMAL + bits;
     }
-    131072 + bits
+    cells::HIGH + bits
 }
 
 fn start_cells(s: &mut Cascade, k: u32)
-    requires { ⌜ (1 ≤ k) × (k ≤ 256) ⌝ }
+    requires { ⌜ (1 ≤ k) × (k ≤ most-nodes) ⌝ }
     ensures { λ _. ⌜ now (s .exit) ≡ startCells k (now (s .entry)) ⌝ }
 {
-    let at = 136 + (k as usize - 1) * 4;
-    let share = s[at + 2];
-    s[at] = reclassed(share, s[at]);
-    s[at + 1] = share;
-    s[at + 3] = 0;
+    let at = cells::NODES + (k as usize - 1) * cells::PER_NODE;
+    let share = s[at + cells::LATEST];
+    s[at + cells::REQUEST] = reclassed(share, s[at + cells::REQUEST]);
+    s[at + cells::FORCE] = share;
+    s[at + cells::GRANTED] = 0;
 }
 
 // Node k at a frame's start. Only a request that was high changes what counts.
 fn start_node(p: &Plan, s: &mut Cascade, k: u32)
-    requires { ⌜ (1 ≤ k) × (k ≤ 256) ⌝ }
+    requires { ⌜ (1 ≤ k) × (k ≤ most-nodes) ⌝ }
     ensures { λ _. ⌜ now (s .exit) ≡ startNode (now (p .entry)) k (now (s .entry)) ⌝ }
 {
-    let at = 136 + (k as usize - 1) * 4;
-    let x = s[at];
+    let at = cells::NODES + (k as usize - 1) * cells::PER_NODE;
+    let x = s[at + cells::REQUEST];
     start_cells(s, k);
-    if x < 131072 {
+    if x < cells::HIGH {
         return;
     }
     requests::mend_node(p, s, k);
@@ -78,7 +83,7 @@ fn start_node(p: &Plan, s: &mut Cascade, k: u32)
 
 // Nodes n to 1.
 fn start_nodes(p: &Plan, s: &mut Cascade, n: u32)
-    requires { ⌜ n ≤ 256 ⌝ }
+    requires { ⌜ n ≤ most-nodes ⌝ }
     ensures { λ _. ⌜ now (s .exit) ≡ startNodes (now (p .entry)) n (now (s .entry)) ⌝ }
 {
     if n == 0 {
@@ -92,7 +97,7 @@ fn start_nodes(p: &Plan, s: &mut Cascade, n: u32)
 pub fn new_frame(p: &Plan, s: &Cascade, t: u64) -> bool
     ensures { λ r. ⌜ r ≡ newFrame (planIn (now (p .entry))) t (now (s .entry)) ⌝ }
 {
-    frame_of(p[0], requests::clock(s)) < frame_of(p[0], t)
+    frame_of(p[plan::FRAME], requests::clock(s)) < frame_of(p[plan::FRAME], t)
 }
 
 // The clock comes to t.
@@ -107,14 +112,14 @@ pub fn advance(p: &Plan, s: &mut Cascade, t: u64)
 
 // n × (b + O) of a reservation's cell.
 pub fn load(overhead: u32, share: u32) -> u64
-    ensures { λ r. ⌜ r ≡ share / 65536 * (share % 65536 + overhead) ⌝ }
+    ensures { λ r. ⌜ r ≡ share / half * (share % half + overhead) ⌝ }
 {
-    (share / 65536) as u64 * ((share % 65536) as u64 + overhead as u64)
+    (share / cells::HALF) as u64 * ((share % cells::HALF) as u64 + overhead as u64)
 }
 
 // The same with a bound, by which the sum of 256 of them fits.
 fn small_load(overhead: u32, share: u32) -> u64
-    ensures { λ r. ⌜ r ≡ share / 65536 * (share % 65536 + overhead) ⌝ }
+    ensures { λ r. ⌜ r ≡ share / half * (share % half + overhead) ⌝ }
     ensures { λ r. ⌜ r ≤ 1125899906842624 ⌝ }
 {
     load(overhead, share)
@@ -123,7 +128,7 @@ fn small_load(overhead: u32, share: u32) -> u64
 // The loads of nodes n to 1 on top of a sum. The call of itself is the last thing,
 // so that the compiler makes a loop of it: 256 calls in one another are slow.
 fn loads_onto(p: &Plan, s: &Cascade, n: u32, others: u64) -> u64
-    requires { ⌜ n ≤ 256 ⌝ }
+    requires { ⌜ n ≤ most-nodes ⌝ }
     requires { ⌜ others + n * 1125899906842624 ≤ 288230376151711744 ⌝ }
     ensures { λ r. ⌜ r ≡ others + sum n (λ k. load (planIn (now (p .entry))) (shareOf (getD (now (s .entry)) (latestCell k) 0))) ⌝ }
     ensures { λ r. ⌜ r ≤ others + n * 1125899906842624 ⌝ }
@@ -131,8 +136,8 @@ fn loads_onto(p: &Plan, s: &Cascade, n: u32, others: u64) -> u64
     if n == 0 {
         return others;
     }
-    let at = 136 + (n as usize - 1) * 4 + 2;
-    loads_onto(p, s, n - 1, others + small_load(p[1], s[at]))
+    let at = cells::NODES + (n as usize - 1) * cells::PER_NODE + cells::LATEST;
+    loads_onto(p, s, n - 1, others + small_load(p[plan::OVERHEAD], s[at]))
 }
 
 // The sum of n × (b + O) over all nodes, by their latest accepted reservations.

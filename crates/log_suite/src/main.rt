@@ -57,8 +57,8 @@ fn run_all(input: &mut [u8; 1048576], plan: &mut Plan, s: &mut Cascade, out: &mu
 
 fn main() {
     let mut input = [0u8; 1048576];
-    let mut plan = [0u32; 1672];
-    let mut cascade = [0u32; 1160];
+    let mut plan = [0u32; plan::CELLS];
+    let mut cascade = [0u32; cells::CELLS];
     let mut out = [0u8; 1179648];
     run_all(&mut input, &mut plan, &mut cascade, &mut out);
 }

@@ -81,6 +81,9 @@ pub const LEVEL: usize = 3;
 
 pub const PORT: usize = 3;
 
+// A port's cell is 0 where it is empty, a node's number, or HUB_CODE + g for hub g.
+pub const HUB_CODE: u32 = 256;
+
 // Node k's cells begin at NODES + (k - 1) * PER_NODE: its hub, and its port there.
 pub const NODES: usize = 1160;
 

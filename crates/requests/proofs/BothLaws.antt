@@ -2,11 +2,12 @@
 use mathlib.Core.Path.{_≡_, refl, sym, ap, _∙_}
 use mathlib.Core.Bool.{Bool, true, false}
 use mathlib.Core.List.{List}
-use Prim.Native.Nat.{ℕ, zero, suc, _+_, _-_, _*_, _≤_, _<_}
+use Prim.Native.Nat.{ℕ, zero, suc, _-_, _≤_, _<_}
 use native.Mathlib.Omega.{arith}
 use lib.Dec.{ltb}
 use lib.ListN.{getD, set}
 use lib.Seq.{getD-set-other, set-comm}
+use Rattle.rules.specs.Plan.{most-hubs}
 use Rattle.rules.proofs.Laws.Passes.{Which, which, yes′, no′}
 use Rattle.ports.specs.Ports.{anyPort}
 use Rattle.ports.specs.Mask.{shows}
@@ -34,12 +35,12 @@ module _ (P : List ℕ) where
   keeps-high : (levels g q : ℕ) (b : Bool) (s : List ℕ) (j : ℕ) → getD (mend P false levels g q b s) (maskCell true j) 0 ≡ getD s (maskCell true j) 0
   unfolding mend
   keeps-high zero g q b s j = refl
-  keeps-high (suc n) g q b s j = go (which (ltb g 1)) (which (ltb 32 g)) (keeps-high n _ _ _ _ j)
+  keeps-high (suc n) g q b s j = go (which (ltb g 1)) (which (ltb most-hubs g)) (keeps-high n _ _ _ _ j)
     where
       up : List ℕ → List ℕ
       up = above P false n g (anyPort (shows (mask g q b s)))
 
-      go : Which (ltb g 1) → Which (ltb 32 g) → getD (up (put g q b s)) (maskCell true j) 0 ≡ getD (put g q b s) (maskCell true j) 0
+      go : Which (ltb g 1) → Which (ltb most-hubs g) → getD (up (put g q b s)) (maskCell true j) 0 ≡ getD (put g q b s) (maskCell true j) 0
           → getD (mend P false (suc n) g q b s) (maskCell true j) 0 ≡ getD s (maskCell true j) 0
       go (yes′ e) f i = simp e
       go (no′ e) (yes′ f) i = simp (e, f)
@@ -53,12 +54,12 @@ module _ (P : List ℕ) where
       → mend P false levels g q b (set s (maskCell true j) v) ≡ set (mend P false levels g q b s) (maskCell true j) v
   unfolding mend
   high-first zero g q b s j v = refl
-  high-first (suc n) g q b s j v = go (which (ltb g 1)) (which (ltb 32 g)) (high-first n _ _ _ _ j v)
+  high-first (suc n) g q b s j v = go (which (ltb g 1)) (which (ltb most-hubs g)) (high-first n _ _ _ _ j v)
     where
       up : List ℕ → List ℕ
       up = above P false n g (anyPort (shows (mask g q b s)))
 
-      go : Which (ltb g 1) → Which (ltb 32 g) → up (set (put g q b s) (maskCell true j) v) ≡ set (up (put g q b s)) (maskCell true j) v
+      go : Which (ltb g 1) → Which (ltb most-hubs g) → up (set (put g q b s) (maskCell true j) v) ≡ set (up (put g q b s)) (maskCell true j) v
           → mend P false (suc n) g q b (set s (maskCell true j) v) ≡ set (mend P false (suc n) g q b s) (maskCell true j) v
       go (yes′ e) f i = simp e
       go (no′ e) (yes′ f) i = simp (e, f)
@@ -78,23 +79,21 @@ module _ (P : List ℕ) where
   pub no-hub-both : (levels g q : ℕ) (normal high : Bool) (s : List ℕ) → g < 1 → s ≡ both levels g q normal high s
   no-hub-both levels g q n h s l = sym (no-hub P true levels g q h _ l ∙ no-hub P false levels g q n s l)
 
-  pub past-hubs-both : (levels g q : ℕ) (normal high : Bool) (s : List ℕ) → 32 < g → s ≡ both levels g q normal high s
+  pub past-hubs-both : (levels g q : ℕ) (normal high : Bool) (s : List ℕ) → most-hubs < g → s ≡ both levels g q normal high s
   past-hubs-both levels g q n h s l = sym (past-hubs P true levels g q h _ l ∙ past-hubs P false levels g q n s l)
 
   -- s₁ is what the call for the parent leaves
-  pub both-up : (levels g q : ℕ) (normal high : Bool) (s : List ℕ) (n h : ℕ) (upN upH : Bool) (s₁ : List ℕ) → (levels ≡ 0 → ⊥) → 1 ≤ g → g ≤ 32
-      → n ≡ maskWith (getD s (8 + (g - 1) * 4) 0) q normal → h ≡ maskWith (getD s (8 + (g - 1) * 4 + 1) 0) q high
+  pub both-up : (levels g q : ℕ) (normal high : Bool) (s : List ℕ) (n h : ℕ) (upN upH : Bool) (s₁ : List ℕ) → (levels ≡ 0 → ⊥) → 1 ≤ g → g ≤ most-hubs
+      → n ≡ maskWith (getD s (maskCell false g) 0) q normal → h ≡ maskWith (getD s (maskCell true g) 0) q high
       → upN ≡ anyPort (shows n) → upH ≡ anyPort (shows h)
-      → s₁ ≡ both (levels - 1) (getD P (plan.hubCell g 1) 0) (getD P (plan.hubCell g 2) 0) upN upH (set (set s (8 + (g - 1) * 4) n) (8 + (g - 1) * 4 + 1) h)
+      → s₁ ≡ both (levels - 1) (getD P (plan.hubCell g 1) 0) (getD P (plan.hubCell g 2) 0) upN upH (set (set s (maskCell false g) n) (maskCell true g) h)
       → s₁ ≡ both levels g q normal high s
   both-up levels g q normal high s n h upN upH s₁ some l u en eh fn fh i =
-      let plain : 8 + (g - 1) * 4 ≡ maskCell false g = omega arith in
       let low = above P false (levels - 1) g upN in
       let top = above P true (levels - 1) g upH in
       let rest = set s (maskCell false g) n in
       let whole : low rest ≡ mend P false levels g q normal s =
-      one-up P false levels g q normal s n upN (low rest) some l u (en ∙ ap (λ (x : ℕ). maskWith (getD s x 0) q normal) plain) fn refl in
+      one-up P false levels g q normal s n upN (low rest) some l u en fn refl in
       let same = keeps-high levels g q normal s g in
       one-up P true levels g q high (mend P false levels g q normal s) h upH s₁ some l u (eh ∙ ap (λ (x : ℕ). maskWith x q high) (sym same)) fh
-      (i ∙ ap (λ (x : ℕ). top (low (set (set s x n) (maskCell true g) h))) plain
-      ∙ ap top (high-first (levels - 1) _ _ upN rest g h ∙ ap (λ (x : List ℕ). set x (maskCell true g) h) whole))
+      (i ∙ ap top (high-first (levels - 1) _ _ upN rest g h ∙ ap (λ (x : List ℕ). set x (maskCell true g) h) whole))

@@ -6,6 +6,7 @@ use native.Mathlib.Omega.{arith}
 use lib.Dec.{ltb}
 use borrow.Author.Tests.{lt-ltb, le-ltb}
 use Rattle.rules.proofs.Laws.Passes.{Which, which, yes′, no′}
+use Rattle.cells.specs.Layout.{half}
 use Rattle.cells.specs.Masks.{countsBy}
 
 module _ (high : Bool) (x granted force : ℕ) where
@@ -16,7 +17,7 @@ module _ (high : Bool) (x granted force : ℕ) where
       go (yes′ l) = rw l
       go (no′ l) = simp (l, lt-ltb x 131072 h)
 
-  pub is-high : high ≡ true → 131072 ≤ x → ltb granted (force / 65536) ≡ countsBy high x granted force
+  pub is-high : high ≡ true → 131072 ≤ x → ltb granted (force / half) ≡ countsBy high x granted force
   is-high e h = rw e (simp (le-ltb x 65536 (omega arith), le-ltb x 131072 h))
 
   pub no-request : high ≡ false → x < 65536 → countsBy high x granted force ≡ false

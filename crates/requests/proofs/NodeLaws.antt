@@ -2,76 +2,70 @@
 use mathlib.Core.Path.{_≡_, _∙_}
 use mathlib.Core.Bool.{Bool, true, false}
 use mathlib.Core.List.{List}
-use Prim.Native.Nat.{ℕ, _+_, _-_, _*_, _≤_, _<_}
-use native.Mathlib.Nat.{add-zero}
+use Prim.Native.Nat.{ℕ, _≤_, _<_}
 use native.Mathlib.Omega.{arith}
 use borrow.Author.Tests.{lt-ltb, le-ltb}
 use lib.ListN.{getD, set}
-use Rattle.cells.specs.Layout.{standing-cell, grantedCell, forceCell, ifNode}
+use Rattle.rules.specs.Plan.{most-nodes, most-levels}
+use Rattle.plan.specs.Tables.{hubOfNode, portOfNode}
+use Rattle.cells.specs.Layout.{standing-cell, requestCell, forceCell, grantedCell, ifNode}
 use Rattle.cells.specs.Masks.{countsBy, mend, mendNode, standingAfter, putRequest, grantedMore, grantNode}
-
--- where the cells of node k start, in the cascade's table and in the plan's
-abbrev own : ℕ → ℕ
-own k = 136 + (k - 1) * 4
-
-abbrev drawn : ℕ → ℕ
-drawn k = 1160 + (k - 1) * 2
 
 module _ (k : ℕ) (a b : List ℕ) where
   below-nodes : k < 1 → b ≡ ifNode k a b
   below-nodes l = simp (lt-ltb k 1 l)
 
-  past-nodes : 256 < k → b ≡ ifNode k a b
-  past-nodes l = simp (le-ltb k 1 (omega arith), lt-ltb 256 k l)
+  past-nodes : most-nodes < k → b ≡ ifNode k a b
+  past-nodes l = simp (le-ltb k 1 (omega arith), lt-ltb most-nodes k l)
 
-  at-node : 1 ≤ k → k ≤ 256 → a ≡ ifNode k a b
-  at-node l h = simp (le-ltb k 1 l, le-ltb 256 k h)
+  at-node : 1 ≤ k → k ≤ most-nodes → a ≡ ifNode k a b
+  at-node l h = simp (le-ltb k 1 l, le-ltb most-nodes k h)
 
 module _ (P : List ℕ) (k : ℕ) (s : List ℕ) where
   pub mend-below : k < 1 → s ≡ mendNode P k s
   unfolding mendNode
   mend-below l = below-nodes k _ s l
 
-  pub mend-past : 256 < k → s ≡ mendNode P k s
+  pub mend-past : most-nodes < k → s ≡ mendNode P k s
   unfolding mendNode
   mend-past l = past-nodes k _ s l
 
-  pub mended : 1 ≤ k → k ≤ 256 → (n h : Bool) (s₁ : List ℕ)
-      → n ≡ countsBy false (getD s (own k) 0) (getD s (grantedCell k) 0) (getD s (forceCell k) 0)
-      → h ≡ countsBy true (getD s (own k) 0) (getD s (grantedCell k) 0) (getD s (forceCell k) 0)
-      → s₁ ≡ mend P true 5 (getD P (drawn k) 0) (getD P (drawn k + 1) 0) h (mend P false 5 (getD P (drawn k) 0) (getD P (drawn k + 1) 0) n s)
+  pub mended : 1 ≤ k → k ≤ most-nodes → (n h : Bool) (s₁ : List ℕ)
+      → n ≡ countsBy false (getD s (requestCell k) 0) (getD s (grantedCell k) 0) (getD s (forceCell k) 0)
+      → h ≡ countsBy true (getD s (requestCell k) 0) (getD s (grantedCell k) 0) (getD s (forceCell k) 0)
+      → s₁ ≡ mend P true most-levels (hubOfNode P k) (portOfNode P k) h (mend P false most-levels (hubOfNode P k) (portOfNode P k) n s)
       → s₁ ≡ mendNode P k s
   unfolding mendNode
-  mended l u n h s₁ e f i = i ∙ simp (le-ltb k 1 l, le-ltb 256 k u, e, f, add-zero)
+  mended l u n h s₁ e f i = i ∙ simp (le-ltb k 1 l, le-ltb most-nodes k u, e, f)
 
   module _ (x : ℕ) where
     pub request-below : k < 1 → s ≡ putRequest P k x s
     unfolding putRequest
     request-below l = below-nodes k _ s l
 
-    pub request-past : 256 < k → s ≡ putRequest P k x s
+    pub request-past : most-nodes < k → s ≡ putRequest P k x s
     unfolding putRequest
     request-past l = past-nodes k _ s l
 
-    pub requested : 1 ≤ k → k ≤ 256 → (n : ℕ) (s₁ : List ℕ)
-        → n ≡ standingAfter (getD s standing-cell 0) (getD s (own k) 0) x
-        → s₁ ≡ mendNode P k (set (set s standing-cell n) (own k) x)
+    pub requested : 1 ≤ k → k ≤ most-nodes → (n : ℕ) (s₁ : List ℕ)
+        → n ≡ standingAfter (getD s standing-cell 0) (getD s (requestCell k) 0) x
+        → s₁ ≡ mendNode P k (set (set s standing-cell n) (requestCell k) x)
         → s₁ ≡ putRequest P k x s
     unfolding putRequest
-    requested l u n s₁ e f = f ∙ simp (le-ltb k 1 l, le-ltb 256 k u, e, add-zero)
+    requested l u n s₁ e f = f ∙ simp (le-ltb k 1 l, le-ltb most-nodes k u, e)
 
   module _ (isHigh : Bool) where
     pub grant-below : k < 1 → s ≡ grantNode P isHigh k s
     unfolding grantNode
     grant-below l = below-nodes k _ s l
 
-    pub grant-past : 256 < k → s ≡ grantNode P isHigh k s
+    pub grant-past : most-nodes < k → s ≡ grantNode P isHigh k s
     unfolding grantNode
     grant-past l = past-nodes k _ s l
 
-    pub granted : 1 ≤ k → k ≤ 256 → (n : ℕ) (s₁ : List ℕ)
+    pub granted : 1 ≤ k → k ≤ most-nodes → (n : ℕ) (s₁ : List ℕ)
         → n ≡ grantedMore isHigh (getD s (grantedCell k) 0)
         → s₁ ≡ putRequest P k 0 (set s (grantedCell k) n)
         → s₁ ≡ grantNode P isHigh k s
     unfolding grantNode
-    granted l u n s₁ e f = f ∙ simp (le-ltb k 1 l, le-ltb 256 k u, e)
+    granted l u n s₁ e f = f ∙ simp (le-ltb k 1 l, le-ltb most-nodes k u, e)

@@ -5,43 +5,44 @@ use plan::Plan;
 ghost use mathlib.Core.Path.{_≡_};
 ghost use mathlib.Core.Bool.{true, false};
 ghost use Prim.Native.Nat.{_+_, _*_, _≤_};
-ghost use Rattle.cells.specs.Layout.{timeAt, putTime, clock-cell, end-cell};
+ghost use Rattle.rules.specs.Plan.{most-hubs};
+ghost use Rattle.cells.specs.Layout.{two-32, timeAt, putTime, clock-cell, end-cell};
 ghost use Rattle.cells.specs.Masks.{countsBy, mend, mendNode, standingAfter, putRequest, grantedMore, grantNode};
 ghost use Rattle.cells.specs.Fresh.{pointed, freshCells};
 ghost use Rattle.cells.specs.Calls.{busyUntil};
 
 // A time of two cells.
 fn wide(low: u32, high: u32) -> u64
-    ensures { λ r. ⌜ r ≡ low + high * 4294967296 ⌝ }
+    ensures { λ r. ⌜ r ≡ low + high * two-32 ⌝ }
 {
-    low as u64 + high as u64 * 4294967296
+    low as u64 + high as u64 * cells::TWO_32
 }
 
 pub fn clock(s: &Cascade) -> u64
     ensures { λ r. ⌜ r ≡ timeAt (now (s .entry)) clock-cell ⌝ }
 {
-    wide(s[0], s[1])
+    wide(s[cells::CLOCK], s[cells::CLOCK_HIGH])
 }
 
 pub fn line_end(s: &Cascade) -> u64
     ensures { λ r. ⌜ r ≡ timeAt (now (s .entry)) end-cell ⌝ }
 {
-    wide(s[2], s[3])
+    wide(s[cells::END], s[cells::END_HIGH])
 }
 
 pub fn put_clock(s: &mut Cascade, t: u64)
     ensures { λ _. ⌜ now (s .exit) ≡ putTime clock-cell t (now (s .entry)) ⌝ }
 {
-    s[0] = (t % 4294967296) as u32;
-    s[1] = (t / 4294967296) as u32;
+    s[cells::CLOCK] = (t % cells::TWO_32) as u32;
+    s[cells::CLOCK_HIGH] = (t / cells::TWO_32) as u32;
 }
 
 pub fn busy_until(s: &mut Cascade, end: u64)
     ensures { λ _. ⌜ now (s .exit) ≡ busyUntil end (now (s .entry)) ⌝ }
 {
-    s[4] = 1;
-    s[2] = (end % 4294967296) as u32;
-    s[3] = (end / 4294967296) as u32;
+    s[cells::BUSY] = 1;
+    s[cells::END] = (end % cells::TWO_32) as u32;
+    s[cells::END_HIGH] = (end / cells::TWO_32) as u32;
 }
 
 // Whether a request counts in a class, by its node's cells.
@@ -49,15 +50,15 @@ fn counts(high: bool, x: u32, granted: u32, force: u32) -> bool
     ensures { λ r. ⌜ r ≡ countsBy high x granted force ⌝ }
 {
     if high {
-        if x < 131072 {
+        if x < cells::HIGH {
             return false;
         }
-        return granted < force / 65536;
+        return granted < force / cells::HALF;
     }
-    if x < 65536 {
+    if x < cells::NORMAL {
         return false;
     }
-    x < 131072
+    x < cells::HIGH
 }
 
 // Port q of hub g shows in each class a request or none: its bits are put, and
@@ -71,20 +72,20 @@ fn mend_both(p: &Plan, s: &mut Cascade, g: u32, q: u32, normal: bool, high: bool
     if g < 1 {
         return;
     }
-    if 32 < g {
+    if cells::MOST_HUBS < g {
         return;
     }
-    let at = 8 + (g as usize - 1) * 4;
-    let n = ports::put_port(s[at], q, normal);
-    let h = ports::put_port(s[at + 1], q, high);
-    s[at] = n;
-    s[at + 1] = h;
-    let own = 8 + (g as usize - 1) * 36;
+    let at = cells::HUBS + (g as usize - 1) * cells::PER_HUB;
+    let n = ports::put_port(s[at + cells::MASK], q, normal);
+    let h = ports::put_port(s[at + cells::HIGH_MASK], q, high);
+    s[at + cells::MASK] = n;
+    s[at + cells::HIGH_MASK] = h;
+    let own = plan::HUBS + (g as usize - 1) * plan::PER_HUB;
     mend_both(
         p,
         s,
-        p[own + 1],
-        p[own + 2],
+        p[own + plan::PARENT],
+        p[own + plan::PLACE],
         ports::any_shown(n),
         ports::any_shown(h),
         levels - 1,
@@ -98,28 +99,46 @@ pub fn mend_node(p: &Plan, s: &mut Cascade, k: u32)
     if k < 1 {
         return;
     }
-    if 256 < k {
+    if cells::MOST_NODES < k {
         return;
     }
-    let at = 136 + (k as usize - 1) * 4;
-    let own = 1160 + (k as usize - 1) * 2;
-    let normal = counts(false, s[at], s[at + 3], s[at + 1]);
-    let high = counts(true, s[at], s[at + 3], s[at + 1]);
-    mend_both(p, s, p[own], p[own + 1], normal, high, 5);
+    let at = cells::NODES + (k as usize - 1) * cells::PER_NODE;
+    let own = plan::NODES + (k as usize - 1) * plan::PER_NODE;
+    let normal = counts(
+        false,
+        s[at + cells::REQUEST],
+        s[at + cells::GRANTED],
+        s[at + cells::FORCE],
+    );
+    let high = counts(
+        true,
+        s[at + cells::REQUEST],
+        s[at + cells::GRANTED],
+        s[at + cells::FORCE],
+    );
+    mend_both(
+        p,
+        s,
+        p[own + plan::NODE_HUB],
+        p[own + plan::NODE_PORT],
+        normal,
+        high,
+        5,
+    );
 }
 
 // The number of standing requests where a request's cell changes.
 fn standing_after(n: u32, old: u32, new: u32) -> u32
     ensures { λ r. ⌜ r ≡ standingAfter n old new ⌝ }
 {
-    if 65536 <= old {
-        if 65536 <= new {
+    if cells::NORMAL <= old {
+        if cells::NORMAL <= new {
             return n;
         }
         return if n == 0 { 0 } else { n - 1 };
     }
-    if 65536 <= new {
-        return if n < 256 { n + 1 } else { n };
+    if cells::NORMAL <= new {
+        return if n < cells::MOST_NODES { n + 1 } else { n };
     }
     n
 }
@@ -131,12 +150,12 @@ pub fn put_request(p: &Plan, s: &mut Cascade, k: u32, x: u32)
     if k < 1 {
         return;
     }
-    if 256 < k {
+    if cells::MOST_NODES < k {
         return;
     }
-    let at = 136 + (k as usize - 1) * 4;
-    s[7] = standing_after(s[7], s[at], x);
-    s[at] = x;
+    let at = cells::NODES + (k as usize - 1) * cells::PER_NODE;
+    s[cells::STANDING] = standing_after(s[cells::STANDING], s[at + cells::REQUEST], x);
+    s[at + cells::REQUEST] = x;
     mend_node(p, s, k);
 }
 
@@ -144,7 +163,7 @@ fn granted_more(high: bool, n: u32) -> u32
     ensures { λ r. ⌜ r ≡ grantedMore high n ⌝ }
 {
     if high {
-        return if n < 65535 { n + 1 } else { n };
+        return if n < cells::MOST_GRANTED { n + 1 } else { n };
     }
     n
 }
@@ -156,25 +175,25 @@ pub fn grant_node(p: &Plan, s: &mut Cascade, high: bool, k: u32)
     if k < 1 {
         return;
     }
-    if 256 < k {
+    if cells::MOST_NODES < k {
         return;
     }
-    let at = 136 + (k as usize - 1) * 4 + 3;
+    let at = cells::NODES + (k as usize - 1) * cells::PER_NODE + cells::GRANTED;
     s[at] = granted_more(high, s[at]);
     put_request(p, s, k, 0);
 }
 
 // The pointers of hubs n to 1 are port 1, without mark.
 fn point_first(s: &mut Cascade, n: u32)
-    requires { ⌜ n ≤ 32 ⌝ }
+    requires { ⌜ n ≤ most-hubs ⌝ }
     ensures { λ _. ⌜ now (s .exit) ≡ pointed n (now (s .entry)) ⌝ }
 {
     if n == 0 {
         return;
     }
-    let at = 8 + (n as usize - 1) * 4;
-    s[at + 2] = 2;
-    s[at + 3] = 2;
+    let at = cells::HUBS + (n as usize - 1) * cells::PER_HUB;
+    s[at + cells::POINTER] = cells::PORT_1;
+    s[at + cells::HIGH_POINTER] = cells::PORT_1;
     point_first(s, n - 1);
 }
 
@@ -182,7 +201,7 @@ fn point_first(s: &mut Cascade, n: u32)
 pub fn fresh(s: &mut Cascade)
     ensures { λ _. ⌜ now (s .exit) ≡ freshCells ⌝ }
 {
-    *s = [0u32; 1160];
-    s[5] = 1;
-    point_first(s, 32);
+    *s = [0u32; cells::CELLS];
+    s[cells::HOLDER] = 1;
+    point_first(s, cells::MOST_HUBS);
 }

@@ -1,7 +1,7 @@
 -- `mask_cell` meets its contract: the number of the class is 0 or 1.
 use mathlib.Core.Path.{ap}
-use Prim.Native.Nat.{ℕ, _+_, _-_, _*_}
 use native.Mathlib.Omega.{arith}
+use Rattle.cells.specs.Layout.{hubCell}
 use Rattle.control.proofs.Looks.{byte-digit, byte-below-2}
 use borrow.Author.Needs.{needs}
 use Rattle.control.proofs.mask_cell.Statement.{statement}
@@ -24,7 +24,7 @@ add-result-2 c = record { fits = omega (arith, byte-below-2 (c .args .high)) }
 
 returns : tie.Need-returns
 returns c = (
-  ap (λ (n : ℕ). 8 + (c .args .g - 1) * 4 + n) (byte-digit (c .args .high)),
+  ap (hubCell (c .args .g)) (byte-digit (c .args .high)),
   omega (arith, byte-below-2 (c .args .high)),
 )
 

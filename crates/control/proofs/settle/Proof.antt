@@ -2,6 +2,7 @@
 use mathlib.Core.Path.{sym, ap, _∙_}
 use Prim.Native.Nat.{ℕ}
 use lib.ListN.{set}
+use Rattle.cells.specs.Layout.{holder-cell, class-cell}
 use Rattle.control.proofs.Looks.{byte-digit}
 use Rattle.control.proofs.Walks.{nobody-granted, class-settled}
 use borrow.Author.Needs.{needs}
@@ -25,7 +26,7 @@ element-write-s-2 c = search needs
 returns-2 : tie.Need-returns-2
 returns-2 c =
     let a = c .before .before .args in
-    ap (λ (n : ℕ). set (set (a .s .now) 5 (a .t .hub)) 6 n) (byte-digit (a .high))
+    ap (λ (n : ℕ). set (set (a .s .now) holder-cell (a .t .hub)) class-cell n) (byte-digit (a .high))
     ∙ sym (class-settled (a .high) (a .t) (a .s .now) (c .if1 .left))
 
 pub settle-spec : {M : Type 1} → statement M

@@ -3,6 +3,8 @@ use mathlib.Core.Path.{sym, ap, ap₂, _∙_}
 use Prim.Native.Nat.{ℕ}
 use native.Mathlib.Omega.{arith}
 use lib.ListN.{getD}
+use Rattle.rules.specs.Control.{most-looks}
+use Rattle.cells.specs.Layout.{holder-cell}
 use Rattle.cells.specs.Turns.{Turned, walkBy}
 use Rattle.control.proofs.Looks.{byte-digit}
 use Rattle.control.proofs.Walks.{class-kept, class-changed}
@@ -26,9 +28,9 @@ returns : tie.Need-returns
 returns c =
     let a = c .before .before .before .before .before .args in
     let e = class-kept (a .p .now) (a .high) (a .s .now) (c .before .before .if1 .taken ∙ byte-digit (a .high)) in (
-      c .walk .ensures .0 ∙ ap (λ (n : ℕ). walkBy (a .p .now) (a .high) 15 (getD (a .s .now) 5 0) n (a .s .now) .turn) (omega arith)
+      c .walk .ensures .0 ∙ ap (λ (n : ℕ). walkBy (a .p .now) (a .high) most-looks (getD (a .s .now) holder-cell 0) n (a .s .now) .turn) (omega arith)
           ∙ sym (ap (λ (d : Turned). d .turn) e),
-      c .walk .ensures .1 .0 ∙ ap (λ (n : ℕ). walkBy (a .p .now) (a .high) 15 (getD (a .s .now) 5 0) n (a .s .now) .cells) (omega arith)
+      c .walk .ensures .1 .0 ∙ ap (λ (n : ℕ). walkBy (a .p .now) (a .high) most-looks (getD (a .s .now) holder-cell 0) n (a .s .now) .cells) (omega arith)
           ∙ sym (ap (λ (d : Turned). d .cells) e),
     )
 
@@ -50,9 +52,9 @@ returns-2 c =
     let e =
     class-changed (a .p .now) (a .high) (a .s .now) (λ f. tested .if1 .left (f ∙ sym (byte-digit (a .high)))) (w .nearest .result)
     (m .climb-to .result) (w .nearest .ensures) (omega (arith, m .climb-to .ensures .0)) in (
-      c .walk2 .ensures .0 ∙ ap₂ (λ (g n : ℕ). walkBy (a .p .now) (a .high) 15 g n (a .s .now) .turn) (omega arith) (omega arith)
+      c .walk2 .ensures .0 ∙ ap₂ (λ (g n : ℕ). walkBy (a .p .now) (a .high) most-looks g n (a .s .now) .turn) (omega arith) (omega arith)
           ∙ sym (ap (λ (d : Turned). d .turn) e),
-      c .walk2 .ensures .1 .0 ∙ ap₂ (λ (g n : ℕ). walkBy (a .p .now) (a .high) 15 g n (a .s .now) .cells) (omega arith) (omega arith)
+      c .walk2 .ensures .1 .0 ∙ ap₂ (λ (g n : ℕ). walkBy (a .p .now) (a .high) most-looks g n (a .s .now) .cells) (omega arith) (omega arith)
           ∙ sym (ap (λ (d : Turned). d .cells) e),
     )
 

@@ -15,6 +15,9 @@ mul-at c = search needs
 add-at : tie.Need-add-at
 add-at c = search needs
 
+add-x : tie.Need-add-x
+add-x c = search needs
+
 mul-x : tie.Need-mul-x
 mul-x c = search needs
 
@@ -47,6 +50,7 @@ start-node-spec =
     sub-at
     mul-at
     add-at
+    add-x
     mul-x
     element-copy-out-x
     start-cells-requires

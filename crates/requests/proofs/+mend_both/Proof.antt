@@ -51,6 +51,9 @@ mend-both-mul-at t c = search needs
 mend-both-add-at : (t : ℕ) → mend-both-lts.Need-add-at (met t) (mend-both-at t) mend-both.Post
 mend-both-add-at t c = search needs
 
+mend-both-add-put-port : (t : ℕ) → mend-both-lts.Need-add-put-port (met t) (mend-both-at t) mend-both.Post
+mend-both-add-put-port t c = search needs
+
 mend-both-mul-put-port : (t : ℕ) → mend-both-lts.Need-mul-put-port (met t) (mend-both-at t) mend-both.Post
 mend-both-mul-put-port t c = search needs
 
@@ -60,8 +63,8 @@ mend-both-element-copy-out-put-port t c = search needs
 mend-both-put-port-requires : (t : ℕ) → mend-both-lts.Need-put-port-requires (met t) (mend-both-at t) mend-both.Post
 mend-both-put-port-requires t c κs = search needs
 
-mend-both-add-put-port : (t : ℕ) → mend-both-lts.Need-add-put-port (met t) (mend-both-at t) mend-both.Post
-mend-both-add-put-port t c = search needs
+mend-both-add-put-port-2 : (t : ℕ) → mend-both-lts.Need-add-put-port-2 (met t) (mend-both-at t) mend-both.Post
+mend-both-add-put-port-2 t c = search needs
 
 mend-both-mul-put-port-2 : (t : ℕ) → mend-both-lts.Need-mul-put-port-2 (met t) (mend-both-at t) mend-both.Post
 mend-both-mul-put-port-2 t c = search needs
@@ -72,14 +75,17 @@ mend-both-element-copy-out-put-port-2 t c = search needs
 mend-both-put-port-requires-2 : (t : ℕ) → mend-both-lts.Need-put-port-requires-2 (met t) (mend-both-at t) mend-both.Post
 mend-both-put-port-requires-2 t c κs = search needs
 
+mend-both-add-s : (t : ℕ) → mend-both-lts.Need-add-s (met t) (mend-both-at t) mend-both.Post
+mend-both-add-s t c = search needs
+
 mend-both-mul-s : (t : ℕ) → mend-both-lts.Need-mul-s (met t) (mend-both-at t) mend-both.Post
 mend-both-mul-s t c = search needs
 
 mend-both-element-write-s : (t : ℕ) → mend-both-lts.Need-element-write-s (met t) (mend-both-at t) mend-both.Post
 mend-both-element-write-s t c = search needs
 
-mend-both-add-s : (t : ℕ) → mend-both-lts.Need-add-s (met t) (mend-both-at t) mend-both.Post
-mend-both-add-s t c = search needs
+mend-both-add-s-2 : (t : ℕ) → mend-both-lts.Need-add-s-2 (met t) (mend-both-at t) mend-both.Post
+mend-both-add-s-2 t c = search needs
 
 mend-both-mul-s-2 : (t : ℕ) → mend-both-lts.Need-mul-s-2 (met t) (mend-both-at t) mend-both.Post
 mend-both-mul-s-2 t c = search needs
@@ -148,16 +154,18 @@ pub +mend-both-spec : {M : Type 1} → statement M
     (mend-both-sub-at t)
     (mend-both-mul-at t)
     (mend-both-add-at t)
+    (mend-both-add-put-port t)
     (mend-both-mul-put-port t)
     (mend-both-element-copy-out-put-port t)
     (mend-both-put-port-requires t)
-    (mend-both-add-put-port t)
+    (mend-both-add-put-port-2 t)
     (mend-both-mul-put-port-2 t)
     (mend-both-element-copy-out-put-port-2 t)
     (mend-both-put-port-requires-2 t)
+    (mend-both-add-s t)
     (mend-both-mul-s t)
     (mend-both-element-write-s t)
-    (mend-both-add-s t)
+    (mend-both-add-s-2 t)
     (mend-both-mul-s-2 t)
     (mend-both-element-write-s-2 t)
     (mend-both-sub-own t)

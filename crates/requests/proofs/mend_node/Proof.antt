@@ -32,14 +32,17 @@ mul-own c = search needs
 add-own : tie.Need-add-own
 add-own c = search needs
 
+add-counts : tie.Need-add-counts
+add-counts c = search needs
+
 mul-counts : tie.Need-mul-counts
 mul-counts c = search needs
 
 element-copy-out-counts : tie.Need-element-copy-out-counts
 element-copy-out-counts c = search needs
 
-add-counts : tie.Need-add-counts
-add-counts c = search needs
+add-counts-2 : tie.Need-add-counts-2
+add-counts-2 c = search needs
 
 mul-counts-2 : tie.Need-mul-counts-2
 mul-counts-2 c = search needs
@@ -47,8 +50,8 @@ mul-counts-2 c = search needs
 element-copy-out-counts-2 : tie.Need-element-copy-out-counts-2
 element-copy-out-counts-2 c = search needs
 
-add-counts-2 : tie.Need-add-counts-2
-add-counts-2 c = search needs
+add-counts-3 : tie.Need-add-counts-3
+add-counts-3 c = search needs
 
 mul-counts-3 : tie.Need-mul-counts-3
 mul-counts-3 c = search needs
@@ -59,14 +62,17 @@ element-copy-out-counts-3 c = search needs
 counts-requires : tie.Need-counts-requires
 counts-requires c κs = search needs
 
+add-counts-4 : tie.Need-add-counts-4
+add-counts-4 c = search needs
+
 mul-counts-4 : tie.Need-mul-counts-4
 mul-counts-4 c = search needs
 
 element-copy-out-counts-4 : tie.Need-element-copy-out-counts-4
 element-copy-out-counts-4 c = search needs
 
-add-counts-3 : tie.Need-add-counts-3
-add-counts-3 c = search needs
+add-counts-5 : tie.Need-add-counts-5
+add-counts-5 c = search needs
 
 mul-counts-5 : tie.Need-mul-counts-5
 mul-counts-5 c = search needs
@@ -74,8 +80,8 @@ mul-counts-5 c = search needs
 element-copy-out-counts-5 : tie.Need-element-copy-out-counts-5
 element-copy-out-counts-5 c = search needs
 
-add-counts-4 : tie.Need-add-counts-4
-add-counts-4 c = search needs
+add-counts-6 : tie.Need-add-counts-6
+add-counts-6 c = search needs
 
 mul-counts-6 : tie.Need-mul-counts-6
 mul-counts-6 c = search needs
@@ -86,14 +92,17 @@ element-copy-out-counts-6 c = search needs
 counts-requires-2 : tie.Need-counts-requires-2
 counts-requires-2 c κs = search needs
 
+add-mend-both : tie.Need-add-mend-both
+add-mend-both c = search needs
+
 mul-mend-both : tie.Need-mul-mend-both
 mul-mend-both c = search needs
 
 element-copy-out-mend-both : tie.Need-element-copy-out-mend-both
 element-copy-out-mend-both c = search needs
 
-add-mend-both : tie.Need-add-mend-both
-add-mend-both c = search needs
+add-mend-both-2 : tie.Need-add-mend-both-2
+add-mend-both-2 c = search needs
 
 mul-mend-both-2 : tie.Need-mul-mend-both-2
 mul-mend-both-2 c = search needs
@@ -126,27 +135,30 @@ mend-node-spec =
     sub-own
     mul-own
     add-own
+    add-counts
     mul-counts
     element-copy-out-counts
-    add-counts
+    add-counts-2
     mul-counts-2
     element-copy-out-counts-2
-    add-counts-2
+    add-counts-3
     mul-counts-3
     element-copy-out-counts-3
     counts-requires
+    add-counts-4
     mul-counts-4
     element-copy-out-counts-4
-    add-counts-3
+    add-counts-5
     mul-counts-5
     element-copy-out-counts-5
-    add-counts-4
+    add-counts-6
     mul-counts-6
     element-copy-out-counts-6
     counts-requires-2
+    add-mend-both
     mul-mend-both
     element-copy-out-mend-both
-    add-mend-both
+    add-mend-both-2
     mul-mend-both-2
     element-copy-out-mend-both-2
     mend-both-requires
