@@ -21,6 +21,7 @@ use Rattle.rules.specs.Promises.{Askable, Acceptable, asks, leaves, reserves, w
 use Rattle.rules.proofs.Laws.Passes.{Which, which, yes′, no′}
 use Rattle.rules.proofs.Laws.Clash.{clash}
 use Rattle.rules.proofs.Core.CallCases.{Event, asking, leaving, reserving, waiting}
+use Rattle.rules.proofs.Core.RefusalNumbers.{row-number}
 use Rattle.rules.proofs.Core.Acceptance.{acceptable}
 use Rattle.rules.proofs.Core.Sound.{Sound}
 use Rattle.rules.proofs.Flat.Turns.{Counting, node-counts}
@@ -58,31 +59,6 @@ pub record Agrees (p : Plan) (x : Performed) (o : Outcome Control) : Type 0 wher
 
 -- ---- rows
 
--- no row has the number 0, which stands for taken
-Numbered : List Row → Type 0
-Numbered [] = Unit {0}
-Numbered (r ∷ rs) = (1 ≤ r .number) × Numbered rs
-
-first-number : (rs : List Row) → Numbered rs → (n : ℕ) → firstRow rs ≡ refuse n → 1 ≤ n
-unfolding Numbered
-first-number [] w n e = clash (cc)
-first-number (r ∷ rs) w n e = go (which (r .applies)) (first-number rs (w .1) n)
-  where
-    go : Which (r .applies) → (firstRow rs ≡ refuse n → 1 ≤ n) → 1 ≤ n
-    go (yes′ a) more =
-        let f : refuse (r .number) ≡ refuse n = rw a at e in
-        let g : r .number ≡ n = cc in
-        omega (arith, w .0)
-    go (no′ a) more = more (rw a at e)
-
-rows-numbered : (p : Plan) (s : Core) (call : Call) → Numbered (rows p s call)
-unfolding Numbered
-rows-numbered p s (ask c t k b) = omega arith
-rows-numbered p s (off t k) = omega arith
-rows-numbered p s (reserve t k n b) = omega arith
-rows-numbered p s (until t) = omega arith
-rows-numbered p s (step t) = omega arith
-
 module _ (P : List ℕ) (R : Ready P) (s : List ℕ) (K : Kept (planIn P) s) where
   row-tied : (t : ℕ) → row12By (planIn P) s t ≡ row12 (planIn P) (coreOf (planIn P) s) t
   row-tied t i = record { number = 12; applies = before (due-tied P R s K i) t }
@@ -100,9 +76,10 @@ module _ (P : List ℕ) (R : Ready P) (s : List ℕ) (K : Kept (planIn P) s) whe
   unfolding rowBy
   number-tied call v e = ap (λ (rs : List Row). numberOf (firstRow rs)) (rows-tied call) ∙ ap numberOf e
 
+  -- 0 stands for taken
   refused-number : (call : Call) (n : ℕ) → firstRow (rows (planIn P) (coreOf (planIn P) s) call) ≡ refuse n → eqb n 0 ≡ false
   refused-number call n e =
-      ne-eqb n 0 (λ z. omega (arith, first-number (rows (planIn P) (coreOf (planIn P) s) call) (rows-numbered (planIn P) (coreOf (planIn P) s) call) n e))
+      ne-eqb n 0 (λ z. omega (arith, row-number (planIn P) (coreOf (planIn P) s) call n e))
 
   -- nothing changes
   unchanged : Left (planIn P) s (coreOf (planIn P) s) (controlOf (planIn P) s)
