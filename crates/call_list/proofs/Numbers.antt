@@ -6,7 +6,7 @@ use mathlib.Core.List.{List}
 use native.Mathlib.Omega.{arith}
 use borrow.Author.Tests.{ne-eqb, eqb-true}
 use lib.Dec.{eqb, ltb}
-use Rattle.rules.specs.Call.{Class, normal, high, Call, ask, off, reserve, until, step, Answer, refused, grant}
+use Rattle.rules.specs.Call.{Call, ask, off, reserve, until, step, Answer, refused}
 use Rattle.rules.proofs.Laws.Passes.{Which, which, yes′, no′}
 use Rattle.cells.specs.declared.Due.{Due}
 use Rattle.cells.specs.declared.Due.the-variants.{At, Never}
@@ -32,11 +32,6 @@ told-refused : (n : ℕ) → 11 ≤ n → Told (refused n)
 unfolding sixOf answerOf
 told-refused n l =
     rw (ne-eqb n 0 (λ e. omega arith), ne-eqb n 1 (λ e. omega arith), ne-eqb n 2 (λ e. omega arith), ne-eqb n 3 (λ e. omega arith))
-
-told-grant : (d k : ℕ) (c : Class) (end moves : ℕ) → Told (grant d k c end moves)
-unfolding sixOf answerOf
-told-grant d k normal end moves = refl
-told-grant d k high end moves = refl
 
 module _ (P : List ℕ) (s : List ℕ) where
   event-told : (call : Call) → Told (eventAnswer (rowBy P call s))

@@ -9,7 +9,7 @@ use borrow.Author.Tests.{eqb-false}
 use lib.Dec.{eqb}
 use Rattle.rules.specs.Plan.{Plan}
 use Rattle.rules.specs.Call.{Call, ask, off, reserve, until, step}
-use Rattle.rules.specs.Rows.{Row, Verdict, accept, refuse, firstRow}
+use Rattle.rules.specs.Rows.{Verdict, accept, refuse, firstRow}
 use Rattle.rules.proofs.Core.RefusalNumbers.{CallNumber, Numbered, first-has}
 use Rattle.cells.specs.Decode.{planIn}
 use Rattle.cells.specs.Calls.{rowsBy, numberOf, rowBy}

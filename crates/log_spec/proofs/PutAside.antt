@@ -2,16 +2,14 @@
 -- and 26 while the line is busy. A grant and a rest are paid for by what is aside, and only a taken event puts 76 more there.
 use Prim.Native.Nat.{ℕ, _+_, _*_, _≤_, _<_}
 use mathlib.Core.Path.{_≡_, refl, ap}
-use mathlib.Core.Bool.{Bool, true, false}
-use mathlib.Core.List.{List, [], _∷_, flatten}
+use mathlib.Core.List.{List, [], flatten}
 use native.Mathlib.Omega.{arith}
 use lib.ListN.{length, length-append}
-use Rattle.rules.specs.Choice.{if_then_else_}
 use Rattle.rules.specs.Plan.{Plan}
 use Rattle.rules.specs.Drawn.{Drawn}
-use Rattle.rules.specs.Call.{Class, Call, ask, off, reserve, until, step, rest, time}
+use Rattle.rules.specs.Call.{Class, Call, step, rest, time}
 use Rattle.rules.specs.Core.{Core, none, standing, bitsOf, advance, countsIn, at, due, class, sought}
-use Rattle.rules.specs.Rows.{Row, refuse, firstRow, rows, change}
+use Rattle.rules.specs.Rows.{change}
 use Rattle.rules.specs.Machine.{Hub, Outcome, restful, grantTo, perform}
 use Rattle.rules.specs.Control.{Control, control}
 use Rattle.rules.specs.Run.{made}
@@ -28,7 +26,6 @@ use Rattle.rules.proofs.Core.AlwaysSound.{Good, good, turn-counts, instant-soun
 use Rattle.rules.proofs.Promised.NoTimeLost.{no-time-lost}
 use Rattle.rules.proofs.Control.Levels.{levels-up}
 use Rattle.rules.proofs.Control.FollowsFlat.{control-follows, control-costs}
-use Rattle.rules.proofs.Laws.Clash.{clash}
 use Rattle.log_lines.specs.FirstLine.{refusedLine}
 use Rattle.log_lines.specs.Lines.{answerLine}
 use Rattle.log_spec.specs.Log.{eventLine, runs}

@@ -2,24 +2,22 @@
 use Prim.Native.Nat.{ℕ, _+_, _≤_, _<_}
 use mathlib.Core.Path.{_≡_, refl, sym, ap, ap₂, subst, subst₂, _∙_}
 use mathlib.Core.Bool.{Bool, true, false}
-use mathlib.Core.List.{List, [], _∷_}
+use mathlib.Core.List.{List}
 use native.Mathlib.Omega.{arith}
 use borrow.Author.Tests.{ne-eqb, le-ltb}
 use lib.Dec.{eqb, ltb}
 use lib.ListN.{getD}
-use Rattle.rules.specs.Choice.{if_then_else_, any}
 use Rattle.rules.specs.Plan.{Plan}
-use Rattle.rules.specs.Drawn.{Drawn, Within}
-use Rattle.rules.specs.Call.{Class, normal, high, Call, ask, off, reserve, until, step, time, Answer, taken, refused, grant, rest, quiet}
+use Rattle.rules.specs.Drawn.{Within}
+use Rattle.rules.specs.Call.{Class, normal, high, Call, ask, off, reserve, until, step, time, taken, grant, rest}
 use Rattle.rules.specs.Core as rules
 use Rattle.rules.specs.Core.{Core, standing, bitsOf, before, advance, countsIn, due, sought}
 use Rattle.rules.specs.Rows.{Row, Verdict, accept, refuse, firstRow, row12, rows, withRequest, change}
 use Rattle.rules.specs.Machine.{Machine, Hub, Outcome, Turn, granting, grantTo, handled, stepAt, accepted, decided, perform}
 use Rattle.rules.specs.Control as hubs
 use Rattle.rules.specs.Control.{Control, control}
-use Rattle.rules.specs.Promises.{Askable, Acceptable, asks, leaves, reserves, waits, InRange, given-up, packets}
+use Rattle.rules.specs.Promises.{Acceptable, asks, leaves, reserves, waits, InRange, given-up, packets}
 use Rattle.rules.proofs.Laws.Passes.{Which, which, yes′, no′}
-use Rattle.rules.proofs.Laws.Clash.{clash}
 use Rattle.rules.proofs.Core.CallCases.{Event, asking, leaving, reserving, waiting}
 use Rattle.rules.proofs.Core.RefusalNumbers.{row-number}
 use Rattle.rules.proofs.Core.Acceptance.{acceptable}
@@ -27,19 +25,18 @@ use Rattle.rules.proofs.Core.Sound.{Sound}
 use Rattle.rules.proofs.Flat.Turns.{Counting, node-counts}
 use Rattle.rules.proofs.Core.AlwaysSound.{Good, instant-sound, turn-counts}
 use Rattle.rules.proofs.Control.FollowsFlat.{control-follows}
-use Rattle.ports.specs.Mask.{digit}
 use Rattle.cells.specs.declared.Due.{Due}
 use Rattle.cells.specs.declared.Due.the-variants.{At, Never}
 use Rattle.cells.specs.declared.Sought.{Sought}
 use Rattle.cells.specs.declared.Sought.the-variants as seek
 use Rattle.cells.specs.declared.Step.the-variants.{Rest}
-use Rattle.cells.specs.Layout.{requestCell, classOf, requestOf, requestCode, putTime}
+use Rattle.cells.specs.Layout.{requestCell, classOf, requestOf, requestCode}
 use Rattle.cells.specs.Decode.{planIn, coreOf, controlOf, hubOf}
 use Rattle.cells.specs.Masks.{putRequest, grantNode}
 use Rattle.cells.specs.Frames.{advanceBy}
 use Rattle.cells.specs.Instants.{dueBy, dueIn, soughtBy, soughtIn}
 use Rattle.cells.specs.Turns as turns
-use Rattle.cells.specs.Calls.{row12By, rowsBy, numberOf, rowBy, changeBy, eventBy, bitsAt, busyUntil, classNumber, classNumbered, grantBy, restBy, handledBy, stepDue, stepBy, eventAnswer, stepAnswer, Performed, eventLeft, performBy}
+use Rattle.cells.specs.Calls.{row12By, rowsBy, numberOf, rowBy, changeBy, eventBy, bitsAt, busyUntil, classNumber, classNumbered, grantBy, handledBy, stepDue, stepBy, stepAnswer, Performed, eventLeft, performBy}
 use Rattle.refinement.specs.Kept.{Ready, Kept, countsOf}
 use Rattle.refinement.proofs.Changed.{kept-but, kept-right}
 use Rattle.refinement.proofs.Requested.{Left, own-field, request-left}

@@ -24,9 +24,6 @@ module _ (k : ℕ) (a b : List ℕ) where
   past-nodes : 256 < k → b ≡ ifNode k a b
   past-nodes l = simp (le-ltb k 1 (omega arith), lt-ltb 256 k l)
 
-  at-node : 1 ≤ k → k ≤ 256 → a ≡ ifNode k a b
-  at-node l h = simp (le-ltb k 1 l, le-ltb 256 k h)
-
 module _ (P : List ℕ) (k : ℕ) (s : List ℕ) where
   pub mend-below : k < 1 → s ≡ mendNode P k s
   unfolding mendNode

@@ -1,7 +1,7 @@
 -- The numbers of refusals: what holds of the number of every row of a list holds of the one that refuses. So a refused call has a number
 -- from 11 to 17. A call with other rows adds them to `rows-numbered`, or has a line of its own for its list; the law stays.
 use Prim.Native.Nat.{ℕ, _≤_}
-use mathlib.Core.Path.{_≡_, refl, subst}
+use mathlib.Core.Path.{_≡_, subst}
 use mathlib.Core.Bool.{Bool, true, false}
 use mathlib.Core.List.{List, [], _∷_}
 use native.Mathlib.Omega.{arith}
