@@ -1,7 +1,7 @@
 -- The bell meets the law, and its worked list is an extended list, by computing.
 use Prim.Native.Nat.{ℕ}
 use mathlib.Core.Path.{_≡_, refl, subst}
-use mathlib.Core.List.{List, [], _∷_, reverse}
+use mathlib.Core.List.{List, [], _∷_}
 use Rattle.text.specs.Number.{digitRun, keepDigit, wellFormed, valueFrom, readRun, readNumber}
 use Rattle.text.specs.Line.{before, lines}
 use Rattle.text.specs.Word.{startsWith, isWord}

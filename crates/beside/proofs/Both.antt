@@ -5,7 +5,6 @@ use mathlib.Core.Path.{_≡_, refl, sym, ap, ap₂, _∙_, subst₂}
 use mathlib.Core.Bool.{Bool, true, false}
 use mathlib.Core.List.{List, [], _∷_}
 use Rattle.rules.specs.Call.{until}
-use Rattle.rules.specs.Run.{Entry}
 use Rattle.cells.specs.Calls.{rowBy}
 use Rattle.beside.specs.Beside.{Reply, refusal, told, Effect, stays, comes-to, Beside, Lawful, seen, Item, of-hub, aside, effectOf, projected}
 use Rattle.beside.specs.Extended.{cellsLeft, watching, stateLeft, AsidePromise, Extended, before, after, event, stepping, besides}

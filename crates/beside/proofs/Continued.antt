@@ -8,7 +8,7 @@ use Rattle.cells.specs.Fresh.{freshCells}
 use Rattle.cells.specs.Calls.{performBy, eventAnswer, stepAnswer}
 use Rattle.cells.specs.Run.{madeBy}
 use Rattle.demands.specs.Demands as hub
-use Rattle.demands.specs.Demands.{Calls, callsOf}
+use Rattle.demands.specs.Demands.{Calls}
 use Rattle.demands.proofs.Sequence.{sequence}
 use Rattle.beside.specs.Beside.{Beside, Lawful, entry, Item, of-hub, projected}
 use Rattle.beside.specs.Extended.{Extended, before, after, Did, event, stepping}

@@ -1,7 +1,7 @@
 -- The hub after an extended list is the hub after its projection.
 use Prim.Native.Nat.{ℕ}
-use mathlib.Core.Path.{_≡_, refl, sym, _∙_, subst}
-use mathlib.Core.List.{List, [], _∷_}
+use mathlib.Core.Path.{_≡_, refl, sym, subst}
+use mathlib.Core.List.{List}
 use Rattle.rules.specs.Call.{until}
 use Rattle.rules.specs.Run.{Entry}
 use Rattle.rules.proofs.Laws.Clash.{clash}
@@ -9,7 +9,7 @@ use Rattle.cells.specs.Calls.{rowBy}
 use Rattle.demands.specs.Demands as hub
 use Rattle.demands.specs.Demands.{Calls}
 use Rattle.beside.specs.Beside.{Reply, refusal, told, Effect, stays, comes-to, Beside, Lawful, seen, Item, effectOf, projected}
-use Rattle.beside.specs.Extended.{cellsLeft, Extended, before, after, Did, event, stepping, besides}
+use Rattle.beside.specs.Extended.{cellsLeft, Extended, before, after, event, stepping, besides}
 
 module _ (B : Beside) (law : Lawful B) (P : List ℕ) where
   -- a call beside the hub that moved the clock to t was made where `until t` is accepted

@@ -3,7 +3,7 @@ use Prim.Native.Nat.{ℕ}
 use mathlib.Core.Path.{_≡_, refl, ap}
 use mathlib.Core.List.{List, [], _∷_, _++_}
 use Rattle.rules.specs.Call.{until}
-use Rattle.rules.specs.Rows.{Row, Verdict, accept, refuse, firstRow}
+use Rattle.rules.specs.Rows.{Row, accept, refuse, firstRow}
 use Rattle.rules.proofs.Laws.Passes.{Which, which, yes′, no′}
 use Rattle.rules.proofs.Laws.Clash.{clash}
 use Rattle.cells.specs.Decode.{planIn}

@@ -1,7 +1,7 @@
 -- The hub after an extended list is the hub after its projection, the answers to the six calls are the same, and so all the demands hold.
 use Prim.Native.Nat.{ℕ}
 use mathlib.Core.Path.{_≡_, refl, sym, ap, _∙_}
-use mathlib.Core.Bool.{Bool, true, false}
+use mathlib.Core.Bool.{Bool}
 use mathlib.Core.List.{List, [], _∷_}
 use Rattle.rules.specs.Run.{Entry}
 use Rattle.plan.specs.Tables.{planOf}

@@ -4,7 +4,6 @@ use mathlib.Core.Path.{_≡_}
 use mathlib.Core.Bool.{true}
 use mathlib.Core.List.{List, [], _∷_}
 use Rattle.rules.specs.Call.{Call, until, step, taken}
-use Rattle.rules.specs.Run.{Entry}
 use Rattle.cells.specs.declared.Step.{Step}
 use Rattle.cells.specs.Fresh.{freshCells}
 use Rattle.cells.specs.Calls.{isEvent, EventPromise, StepPromise, eventAnswer, stepAnswer, eventBy}

@@ -2,13 +2,11 @@
 use Prim.Native.Nat.{ℕ, _≤_}
 use mathlib.Core.Path.{_≡_, refl, sym, ap, _∙_}
 use mathlib.Core.Bool.{true, false}
-use mathlib.Core.List.{List, [], _∷_}
+use mathlib.Core.List.{List}
 use native.Mathlib.Omega.{arith}
-use borrow.Author.Tests.{ne-eqb, eqb-true, eqb-false}
+use borrow.Author.Tests.{ne-eqb, eqb-true}
 use lib.Dec.{eqb, ltb}
-use Rattle.rules.specs.Call.{Class, normal, high, Call, ask, off, reserve, until, step, Answer, refused, grant}
-use Rattle.rules.specs.Plan.{Plan}
-use Rattle.rules.specs.Rows.{Row, firstRow}
+use Rattle.rules.specs.Call.{Call, ask, off, reserve, until, step, Answer, refused}
 use Rattle.rules.proofs.Laws.Passes.{Which, which, yes′, no′}
 use Rattle.cells.specs.declared.Due.{Due}
 use Rattle.cells.specs.declared.Due.the-variants.{At, Never}
@@ -19,53 +17,21 @@ use Rattle.cells.specs.declared.Step.the-variants.{Grant, Rest, Quiet, Refused}
 use Rattle.cells.specs.Decode.{planIn}
 use Rattle.cells.specs.Frames.{advanceBy}
 use Rattle.cells.specs.Instants.{dueBy, soughtBy}
-use Rattle.cells.specs.Calls.{rowsBy, numberOf, rowBy, classNumbered, grantBy, restBy, handledBy, stepDue, stepBy, eventAnswer, stepAnswer, eventLeft, performBy}
+use Rattle.cells.specs.Calls.{rowBy, classNumbered, grantBy, restBy, handledBy, stepDue, stepBy, eventAnswer, stepAnswer, eventLeft, performBy}
+use Rattle.cells.proofs.RowNumbers.{row-number}
 use Rattle.call_list.specs.declared.Six as code
 use Rattle.call_list.specs.Table.{Six, classCode, sixOf, answerOf}
-
--- ---- rows
-
--- no row has a number below 11: 0 to 3 say other things
-High : List Row → Type 0
-High [] = Unit {0}
-High (r ∷ rs) = (11 ≤ r .number) × High rs
-
-rows-high : (p : Plan) (s : List ℕ) (call : Call) → High (rowsBy p s call)
-unfolding High rowsBy
-rows-high p s (ask c t k b) = omega arith
-rows-high p s (off t k) = omega arith
-rows-high p s (reserve t k n b) = omega arith
-rows-high p s (until t) = omega arith
-rows-high p s (step t) = omega arith
-
-first-high : (rs : List Row) → High rs → (numberOf (firstRow rs) ≡ 0 → ⊥) → 11 ≤ numberOf (firstRow rs)
-unfolding High
-first-high [] w d = absurd (d refl)
-first-high (r ∷ rs) w d = go (which (r .applies)) (first-high rs (w .1))
-  where
-    go : Which (r .applies) → ((numberOf (firstRow rs) ≡ 0 → ⊥) → 11 ≤ numberOf (firstRow rs))
-        → 11 ≤ numberOf (firstRow (r ∷ rs))
-    go (yes′ a) more = rw a (w .0)
-    go (no′ a) more = rw a (more (rw a at d))
-
-row-high : (P : List ℕ) (call : Call) (s : List ℕ) → eqb (rowBy P call s) 0 ≡ false → 11 ≤ rowBy P call s
-unfolding rowBy
-row-high P call s e = first-high (rowsBy (planIn P) s call) (rows-high (planIn P) s call) (eqb-false (rowBy P call s) 0 e)
 
 -- ---- an answer is told by its numbers
 
 abbrev Told : Answer → Type 0
 Told a = answerOf (sixOf a) ≡ a
 
+-- 0 to 3 say other things
 told-refused : (n : ℕ) → 11 ≤ n → Told (refused n)
 unfolding sixOf answerOf
 told-refused n l =
     rw (ne-eqb n 0 (λ e. omega arith), ne-eqb n 1 (λ e. omega arith), ne-eqb n 2 (λ e. omega arith), ne-eqb n 3 (λ e. omega arith))
-
-told-grant : (d k : ℕ) (c : Class) (end moves : ℕ) → Told (grant d k c end moves)
-unfolding sixOf answerOf
-told-grant d k normal end moves = refl
-told-grant d k high end moves = refl
 
 module _ (P : List ℕ) (s : List ℕ) where
   event-told : (call : Call) → Told (eventAnswer (rowBy P call s))
@@ -74,7 +40,7 @@ module _ (P : List ℕ) (s : List ℕ) where
     where
       go : Which (eqb (rowBy P call s) 0) → Told (eventAnswer (rowBy P call s))
       go (yes′ e) = rw e refl
-      go (no′ e) = rw e (told-refused (rowBy P call s) (row-high P call s e))
+      go (no′ e) = rw e (told-refused (rowBy P call s) (row-number P s call e .low))
 
   handled-told : (d : ℕ) (x : Sought) (r : List ℕ) → Told (stepAnswer (handledBy P d x r .answer))
   unfolding handledBy grantBy restBy stepAnswer sixOf answerOf
@@ -97,7 +63,7 @@ module _ (P : List ℕ) (s : List ℕ) where
     where
       go : Which (eqb (rowBy P (step t) s) 0) → Told (stepAnswer (stepBy P t s .answer))
       go (yes′ e) = rw e (due-told (dueBy (planIn P) s) t)
-      go (no′ e) = rw e (told-refused (rowBy P (step t) s) (row-high P (step t) s e))
+      go (no′ e) = rw e (told-refused (rowBy P (step t) s) (row-number P s (step t) e .low))
 
   pub told : (call : Call) → answerOf (sixOf (performBy P call s .answer)) ≡ performBy P call s .answer
   unfolding performBy eventLeft

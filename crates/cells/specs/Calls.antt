@@ -15,7 +15,6 @@ use Rattle.cells.specs.declared.Due.{Due}
 use Rattle.cells.specs.declared.Due.the-variants.{At, Never}
 use Rattle.cells.specs.declared.Sought.{Sought}
 use Rattle.cells.specs.declared.Sought.the-variants as seek
-use Rattle.cells.specs.declared.Turn.{Turn}
 use Rattle.cells.specs.declared.Step.{Step}
 use Rattle.cells.specs.declared.Step.the-variants.{Grant, Rest, Quiet, Refused}
 use Rattle.cells.specs.Layout.{end-cell, busy-cell, holder-cell, requestCell, latestCell, ifNode, putTime, shareCode, requestOf, requestCode}

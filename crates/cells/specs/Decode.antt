@@ -1,15 +1,15 @@
 -- The hub of `rules` that a plan's cells and a cascade's cells are.
-use Prim.Native.Nat.{ℕ, _+_, _-_, _*_, _/_, _%_, min}
-use mathlib.Core.Bool.{Bool, true, false, not, _&&_}
+use Prim.Native.Nat.{ℕ, _-_, min}
+use mathlib.Core.Bool.{Bool, true, false, _&&_}
 use mathlib.Core.List.{List}
-use lib.Dec.{ltb, leb, eqb}
+use lib.Dec.{leb, eqb}
 use lib.ListN.{getD}
 use Rattle.rules.specs.Choice.{if_then_else_}
 use Rattle.rules.specs.Plan.{Plan, most-nodes}
 use Rattle.rules.specs.Call.{Class, normal, high}
-use Rattle.rules.specs.Core.{Core, Request, none, Share, nothing-reserved, Line, resting, busy}
+use Rattle.rules.specs.Core.{Core, none, nothing-reserved, Line, resting, busy}
 use Rattle.rules.specs.Machine.{Hub}
-use Rattle.rules.specs.Control.{Pointer, Control, atPort}
+use Rattle.rules.specs.Control.{Control, atPort}
 use Rattle.plan.specs.Tables.{planOf}
 use Rattle.cells.specs.Layout.{timeAt, clock-cell, end-cell, busy-cell, holder-cell, class-cell, requestCell, forceCell, latestCell, grantedCell, pointerCell, classOf, requestOf, shareOf, pointerOf}
 

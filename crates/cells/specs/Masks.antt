@@ -1,7 +1,7 @@
 -- "A hub sees of each port only which classes count there": the masks are
 -- kept, and a change at a node mends them from its hub up to the root.
 use Prim.Native.Nat.{ℕ, zero, suc, _+_, _-_}
-use mathlib.Core.Bool.{Bool, true, false, not, _&&_}
+use mathlib.Core.Bool.{Bool, true, false, _&&_}
 use mathlib.Core.List.{List}
 use lib.Dec.{ltb, leb}
 use lib.ListN.{getD, set}

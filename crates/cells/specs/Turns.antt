@@ -1,6 +1,6 @@
 -- "Control, hub by hub" over the cells: a look finds the port by the hub's mask, and the walk passes control until a node is found.
 use Prim.Native.Nat.{ℕ, zero, suc, _+_, _-_, _/_}
-use mathlib.Core.Bool.{Bool, true, false}
+use mathlib.Core.Bool.{Bool}
 use mathlib.Core.List.{List}
 use lib.Dec.{ltb, eqb}
 use lib.ListN.{getD, set}

@@ -1,11 +1,10 @@
--- Every plan text that is taken, and every list of the six calls from its fresh table, meets the demands.
+-- The entry points meet the demands: every list of the six calls, from the fresh table of any plan text that is taken.
 use Prim.Native.Nat.{ℕ, _-_, _*_, _≤_}
 use mathlib.Core.Path.{_≡_, refl, sym, ap, ap₂, subst, subst₂, _∙_}
 use mathlib.Core.List.{List, map}
 use Rattle.rules.specs.Plan.{Plan, levels}
-use Rattle.rules.specs.Call.{Call, Answer}
+use Rattle.rules.specs.Call.{Call}
 use Rattle.rules.specs.Core.{Core}
-use Rattle.rules.specs.Drawn.{Drawn}
 use Rattle.rules.specs.Machine.{Hub, perform}
 use Rattle.rules.specs.Control.{Control, control}
 use Rattle.rules.specs.Run.{Entry, made}
@@ -24,7 +23,7 @@ use Rattle.plan.specs.Taken.{TakenAs}
 use Rattle.demands.specs.Promises.{Promises}
 use Rattle.demands.proofs.Promises.{drawn-promises}
 use Rattle.cells.specs.Layout.{timeAt, clock-cell}
-use Rattle.cells.specs.Decode.{planIn, coreOf, controlOf, hubOf}
+use Rattle.cells.specs.Decode.{planIn, coreOf, hubOf}
 use Rattle.cells.specs.Calls.{performBy}
 use Rattle.cells.specs.Run.{madeBy}
 use Rattle.refinement.specs.Kept.{Ready}

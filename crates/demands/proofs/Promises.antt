@@ -1,4 +1,4 @@
--- Every plan text that is taken keeps the promises, over every list of calls.
+-- The cascade of `rules` meets the demands: every list of calls, with any plan text that is taken.
 use Prim.Native.Nat.{ℕ, _≤_}
 use mathlib.Core.Path.{_≡_}
 use mathlib.Core.List.{List}

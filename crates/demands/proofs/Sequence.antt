@@ -1,14 +1,12 @@
 -- A list of calls as the contracts allow it is the run over the cells.
 use Prim.Native.Nat.{ℕ}
 use mathlib.Core.Path.{_≡_, refl, sym, ap, ap₂, _∙_}
-use mathlib.Core.Bool.{Bool, true, false}
-use mathlib.Core.List.{List, [], _∷_}
+use mathlib.Core.Bool.{true}
+use mathlib.Core.List.{List, _∷_}
 use Rattle.rules.specs.Call.{Call, ask, off, reserve, until, step, Answer}
 use Rattle.rules.specs.Run.{Entry}
 use Rattle.rules.proofs.Laws.Passes.{true-false}
-use Rattle.cells.specs.declared.Step.{Step}
-use Rattle.cells.specs.Fresh.{freshCells}
-use Rattle.cells.specs.Calls.{isEvent, EventPromise, StepPromise, eventAnswer, stepAnswer, rowBy, eventBy, eventLeft, performBy}
+use Rattle.cells.specs.Calls.{isEvent, eventAnswer, stepAnswer, eventLeft, performBy}
 use Rattle.cells.specs.Run.{madeBy}
 use Rattle.demands.specs.Demands.{Calls, before, event, stepping, callsOf}
 

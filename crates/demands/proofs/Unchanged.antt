@@ -1,10 +1,8 @@
 -- A refusal changes no cell, and neither does quiet: of every content of both tables.
 use Prim.Native.Nat.{ℕ}
 use mathlib.Core.Path.{_≡_, refl, subst}
-use mathlib.Core.Bool.{Bool, true, false}
 use mathlib.Core.List.{List}
 use lib.Dec.{eqb, ltb}
-use Rattle.rules.specs.Choice.{if_then_else_}
 use Rattle.rules.specs.Call.{Call, ask, off, reserve, until, step, Answer, taken, refused, grant, rest, quiet}
 use Rattle.rules.proofs.Laws.Passes.{Which, which, yes′, no′}
 use Rattle.cells.specs.declared.Due.{Due}

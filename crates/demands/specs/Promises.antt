@@ -1,4 +1,4 @@
--- The demands, in one record: of a plan and a list of calls made on its cascade, the latest first.
+-- The demands, of the cascade of `rules`: one record, of a plan and a list of calls made on its cascade, the latest first.
 use Prim.Native.Nat.{ℕ, _-_, _*_, _≤_}
 use mathlib.Core.Path.{_≡_}
 use mathlib.Core.List.{List, map}

@@ -1,1 +1,1 @@
-// Theory alone: what the six calls promise, and what follows for every list of them.
+// Theory alone: the demands of document 01 and what document 02 adds, for every list of the six calls.

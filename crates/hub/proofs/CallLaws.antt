@@ -12,6 +12,7 @@ use Rattle.rules.specs.Drawn.{Within}
 use Rattle.rules.specs.Call.{Class, Call, ask, off, reserve, until, step, time}
 use Rattle.rules.specs.Rows.{Row, last-time, row13, row14, row15, row15r, row16, row17}
 use Rattle.rules.specs.Promises.{InRange, given-up, packets}
+use Rattle.rules.proofs.Core.CallCases.{Clear, clear}
 use Rattle.rules.proofs.Core.RowsPassed.{passed11, passed13, passed14, passed15, passed15r}
 use Rattle.cells.specs.declared.Step.the-variants.{Refused}
 use Rattle.cells.specs.Layout.{half, timeAt, clock-cell}
@@ -19,21 +20,13 @@ use Rattle.cells.specs.Decode.{planIn, coreOf}
 use Rattle.cells.specs.Frames.{advanceBy}
 use Rattle.cells.specs.Instants.{dueBy}
 use Rattle.cells.specs.Calls.{rowsBy, rowBy, changeBy, eventBy, stepDue, stepBy}
-use Rattle.hub.proofs.FirstRow.{rowOf, numbered, Passed, all-pass, stops, goes-on}
-
-rows-numbered : (p : Plan) (s : List ℕ) (call : Call) → numbered (rowsBy p s call) ≡ true
-unfolding rowsBy
-rows-numbered p s (ask c t k b) = refl
-rows-numbered p s (off t k) = refl
-rows-numbered p s (reserve t k n b) = refl
-rows-numbered p s (until t) = refl
-rows-numbered p s (step t) = refl
+use Rattle.cells.proofs.RowNumbers.{no-row}
+use Rattle.hub.proofs.FirstRow.{rowOf, stops, goes-on}
 
 -- r is the row that refuses the call, or 0
 module _ (P s : List ℕ) (call : Call) {r : ℕ} (e : r ≡ rowBy P call s) where
-  pub call-passed : r ≡ 0 → Passed (rowsBy (planIn P) s call)
-  unfolding rowBy
-  call-passed z = all-pass (rowsBy (planIn P) s call) (rows-numbered (planIn P) s call) (sym e ∙ z)
+  pub call-passed : r ≡ 0 → Clear (rowsBy (planIn P) s call)
+  call-passed z = clear (rowsBy (planIn P) s call) (no-row P s call (sym e ∙ z))
 
   -- a call whose rows are those of this one and more: a row of this one applies, or none
   module _ (longer : Call) (more : List Row) (same : rowsBy (planIn P) s longer ≡ rowsBy (planIn P) s call ++ more) where

@@ -1,7 +1,6 @@
 -- For the programs: what was written lies within the buffer (Within). Wrote
--- and PutSame serve the proofs here; the samples are lines by computing.
+-- and PutSame serve the proofs here; Samples are lines by computing.
 pub mod Within
 pub mod Wrote
 mod PutSame
-mod FirstLineSamples
-mod LineSamples
+mod Samples

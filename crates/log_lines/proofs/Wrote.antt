@@ -1,7 +1,6 @@
 -- Bytes written from a place on, one piece behind the other: while all of them fit no put is short, and in the end they stand there.
 -- Assumes nothing.
-use mathlib.Core.Path.{_≡_, sym, ap, _∙_}
-use mathlib.Core.Bool.{Bool}
+use mathlib.Core.Path.{_≡_, sym, _∙_}
 use mathlib.Core.List.{List, [], _++_}
 use Prim.Native.Nat.{ℕ, _+_, _≤_}
 use native.Mathlib.Nat.{add-zero}
@@ -10,7 +9,7 @@ use lib.ListN.{length, take, length-append}
 use Rattle.rules.proofs.Laws.Clash.{clash}
 use Rattle.writer.specs.declared.Put.{Put}
 use Rattle.writer.specs.declared.Put.the-variants.{Behind, Short}
-use Rattle.writer.specs.Write.{overwrite, putAnswer, putBuffer, passBuffer, putNumber, putRow}
+use Rattle.writer.specs.Write.{overwrite, putAnswer, putBuffer}
 use Rattle.writer.proofs.Writes.{overwrite-none, overwrite-length, overwrite-append, take-overwrite, put-fits}
 
 -- buffer e is d with s written from place `start` on, and `at` is the place behind
@@ -40,9 +39,3 @@ module _ {d : List ℕ} {start : ℕ} {s : List ℕ} {at : ℕ} {e : List ℕ} (
   -- what was written stands there
   pub wrote-front : start ≤ length d → take at e ≡ take start d ++ s
   wrote-front room = rw (w .place, w .bytes) (take-overwrite d start s room)
-
--- what is written or measured may be put by another name
-pub put-same : (w : Bool) (d : List ℕ) (at : ℕ) {s t : List ℕ} (r : Put) (e : List ℕ)
-    → (r ≡ putAnswer d at s) × (e ≡ passBuffer w d at s) × (putNumber r ≡ putRow d at s) → s ≡ t
-    → (r ≡ putAnswer d at t) × (e ≡ passBuffer w d at t) × (putNumber r ≡ putRow d at t)
-put-same w d at r e p same = (p .0 ∙ ap (putAnswer d at) same, p .1 ∙ ap (passBuffer w d at) same, p .2 ∙ ap (putRow d at) same)

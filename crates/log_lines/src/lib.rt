@@ -60,10 +60,13 @@ pub fn first_line(answer: Answer, write: bool, buffer: &mut [u8], at: usize) -> 
             at: _,
             line: _,
         } => nodes_line(nodes, hubs, write, buffer, at),
-        Answer::Refused { line, number } => {
-            let numbers = [line as u64, number as u64];
-            writer::put_form(write, buffer, at, b"(refused", &numbers)
-        }
+        Answer::Refused { line, number } => refused_line(
+            line as u64,
+            number as u32,
+            write,
+            buffer,
+            at,
+        ),
     }
 }
 

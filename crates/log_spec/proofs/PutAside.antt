@@ -2,21 +2,20 @@
 -- and 26 while the line is busy. A grant and a rest are paid for by what is aside, and only a taken event puts 76 more there.
 use Prim.Native.Nat.{ℕ, _+_, _*_, _≤_, _<_}
 use mathlib.Core.Path.{_≡_, refl, ap}
-use mathlib.Core.Bool.{Bool, true, false}
-use mathlib.Core.List.{List, [], _∷_, flatten}
+use mathlib.Core.List.{List, [], flatten}
 use native.Mathlib.Omega.{arith}
 use lib.ListN.{length, length-append}
-use Rattle.rules.specs.Choice.{if_then_else_}
 use Rattle.rules.specs.Plan.{Plan}
 use Rattle.rules.specs.Drawn.{Drawn}
-use Rattle.rules.specs.Call.{Class, Call, ask, off, reserve, until, step, rest, time}
+use Rattle.rules.specs.Call.{Class, Call, step, rest, time}
 use Rattle.rules.specs.Core.{Core, none, standing, bitsOf, advance, countsIn, at, due, class, sought}
-use Rattle.rules.specs.Rows.{Row, refuse, firstRow, rows, change}
+use Rattle.rules.specs.Rows.{change}
 use Rattle.rules.specs.Machine.{Hub, Outcome, restful, grantTo, perform}
 use Rattle.rules.specs.Control.{Control, control}
 use Rattle.rules.specs.Run.{made}
 use Rattle.rules.specs.Promises.{Acceptable, asks, leaves, reserves, waits}
 use Rattle.rules.proofs.Core.RowsPassed.{InTime}
+use Rattle.rules.proofs.Core.RefusalNumbers.{row-number}
 use Rattle.rules.proofs.Core.Acceptance.{acceptable}
 use Rattle.rules.proofs.Core.Requests.{counts-stands}
 use Rattle.rules.proofs.Core.CallCases as course
@@ -27,37 +26,13 @@ use Rattle.rules.proofs.Core.AlwaysSound.{Good, good, turn-counts, instant-soun
 use Rattle.rules.proofs.Promised.NoTimeLost.{no-time-lost}
 use Rattle.rules.proofs.Control.Levels.{levels-up}
 use Rattle.rules.proofs.Control.FollowsFlat.{control-follows, control-costs}
-use Rattle.rules.proofs.Laws.Clash.{clash}
 use Rattle.log_lines.specs.FirstLine.{refusedLine}
 use Rattle.log_lines.specs.Lines.{answerLine}
 use Rattle.log_spec.specs.Log.{eventLine, runs}
 use Rattle.log_spec.proofs.NoStepLeft.{standings, advance-stands, put-stands, one-fewer}
 use Rattle.log_spec.proofs.LineLengths.{grant-length, rest-length, refused-length}
 
--- a refusal's number is one of the rows'
-abbrev Numbered : List Row → Type 0
-Numbered [] = Unit {0}
-Numbered (r ∷ rs) = (r .number ≤ 17) × Numbered rs
-
-first-numbered : (rs : List Row) → Numbered rs → (n : ℕ) → firstRow rs ≡ refuse n → n ≤ 17
-first-numbered [] all n e = clash (cc)
-first-numbered (r ∷ rs) all n e = go (r .applies) (first-numbered rs (all .1) n) e
-  where
-    go : (b : Bool) → (firstRow rs ≡ refuse n → n ≤ 17) → (if b then refuse (r .number) else firstRow rs) ≡ refuse n → n ≤ 17
-    go true more e = let q : r .number ≡ n = cc in omega (arith, all .0)
-    go false more e = more e
-
 module _ (p : Plan) where
-  rows-numbered : (s : Core) (call : Call) → Numbered (rows p s call)
-  rows-numbered s (ask c t k b) = (omega arith, (omega arith, (omega arith, (omega arith, (omega arith, tt)))))
-  rows-numbered s (off t k) = (omega arith, (omega arith, (omega arith, tt)))
-  rows-numbered s (reserve t k n b) = (omega arith, (omega arith, (omega arith, (omega arith, (omega arith, (omega arith, tt))))))
-  rows-numbered s (until t) = (omega arith, (omega arith, tt))
-  rows-numbered s (step t) = (omega arith, tt)
-
-  pub row-number : (s : Core) (call : Call) (n : ℕ) → firstRow (rows p s call) ≡ refuse n → n ≤ 17
-  row-number s call n e = first-numbered (rows p s call) (rows-numbered s call) n e
-
   abbrev pub aside : Core → ℕ
   aside s = 76 * standings p s + 26 * runs (s .line)
 
@@ -133,7 +108,7 @@ module _ (p : Plan) (drawn : Drawn p) (calls : List Call) where
         → length (flatten (eventLine number (o .answer))) + aside p (o .hub .core) ≤ aside p (here .core) + 76
     unfolding flatten
     by-course (refusal call n e) q =
-        omega (arith, length-append (refusedLine number n) [], refused-length number n few (omega (arith, row-number p (here .core) call n e)))
+        omega (arith, length-append (refusedLine number n) [], refused-length number n few (omega (arith, row-number p (here .core) call n e .up)))
     by-course (event call e a) q = omega (arith, event-aside p (here .core) (acceptable p (here .core) e a))
     by-course (quietly t i n) q = omega arith
     by-course (course.granting t d c i e l n) q = omega (arith, grant-pays t d i e l c n)

@@ -8,7 +8,7 @@ use native.Mathlib.Omega.{arith}
 use lib.Arith.{digits-mod}
 use lib.Bits.{bitAnd, bitOr, and-step, and-shr, or-step, or-shr, shifted-half, shifted-even}
 use lib.Dec.{eqb}
-use lib.Pow.{pow-mono, shr-shr, shl-shr}
+use lib.Pow.{pow-mono, shr-shr}
 use Rattle.ports.specs.Mask.{shows}
 
 -- ---- right shift: b ports fewer
@@ -25,9 +25,6 @@ unfolding shows
 shows-first m = ap (λ (x : ℕ). eqb (x % 2) 1) (div-one m)
 
 -- ---- left shift: b ports more, none of them shown
-
-pub shows-shl : (a b i : ℕ) → shows (a * 2 ^ b) (suc (b + i)) ≡ shows a (suc i)
-shows-shl a b i = sym (shows-shr (a * 2 ^ b) b i) ∙ ap (λ (x : ℕ). shows x (suc i)) (shl-shr a b)
 
 pub shl-shows-none : (a b p : ℕ) → p ≤ b → shows (a * 2 ^ b) p ≡ false
 unfolding shows

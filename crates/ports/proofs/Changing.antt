@@ -1,18 +1,17 @@
--- A mask changed by an `or` shows one port more, by an `and` before it just as told, and by shifts none below a pointer, at any width k.
+-- A mask changed by an `or` shows one port more, and by an `and` before it just as told, at any width k.
 use mathlib.Core.Path.{_≡_, refl, sym, ap, ap₂, _∙_}
 use mathlib.Core.Bool.{Bool, true, false, not, _&&_, _||_, or-false}
-use Prim.Native.Nat.{ℕ, suc, _+_, _-_, _*_, _/_, _%_, _^_, _≤_, _<_}
-use native.Mathlib.Nat.{mod-eq-of-lt, div-mul-le-self, lt-of-le-of-lt, lt-of-lt-of-le}
+use Prim.Native.Nat.{ℕ, suc, _-_, _*_, _%_, _^_, _≤_, _<_}
+use native.Mathlib.Nat.{mod-eq-of-lt, lt-of-le-of-lt, lt-of-lt-of-le}
 use native.Mathlib.Omega.{arith}
 use borrow.Author.Tests.{eqb-true, eqb-false, ne-eqb, leb-true, leb-false}
 use lib.Bits.{bitAnd, bitOr, or-lt, and-le-l}
 use lib.Dec.{eqb, leb}
 use lib.Pow.{pow-pos, pow-mono, shl-shr}
-use Rattle.ports.specs.Ports.{withPort, putPort, atOrAfter}
+use Rattle.ports.specs.Ports.{withPort, putPort}
 use Rattle.ports.specs.Mask.{shows, maskUpTo, digit}
-use Rattle.ports.proofs.Bits.{shows-shl, shows-shr, shl-shows-none, shows-or, shows-and, shows-not, shows-beyond}
-use Rattle.ports.proofs.Coding.{is-mask, empty-mask, digit-odd}
-use Rattle.ports.proofs.Pointing.{after-kept, after-cleared}
+use Rattle.ports.proofs.Bits.{shl-shows-none, shows-or, shows-and, shows-not, shows-beyond}
+use Rattle.ports.proofs.Coding.{is-mask, digit-odd}
 
 -- ---- one port more: its summary, shifted to its place
 
@@ -86,28 +85,3 @@ unfolding putPort
 put-no-port k mask port b h other =
     is-mask k mask (putPort (shows mask) port b) h
     (λ p q r. sym (ap (λ (t : Bool). (t && b) || (not t && shows mask p)) (ne-eqb p port (other p q r))))
-
--- ---- the ports below a pointer cleared
-
-shows-cleared : (m b p : ℕ) → 1 ≤ p → shows (m / 2 ^ b * 2 ^ b) p ≡ atOrAfter (suc b) (shows m) p
-shows-cleared m b p h = go (leb p b) refl
-  where
-    kept : (i : ℕ) → p ≡ suc (b + i) → shows (m / 2 ^ b * 2 ^ b) p ≡ shows m p
-    kept i e = rw e (shows-shl (m / 2 ^ b) b i ∙ shows-shr m b i)
-
-    go : (t : Bool) → leb p b ≡ t → shows (m / 2 ^ b * 2 ^ b) p ≡ atOrAfter (suc b) (shows m) p
-    go true e = shl-shows-none (m / 2 ^ b) b p (leb-true p b e) ∙ sym (after-cleared (suc b) (shows m) p (omega (arith, leb-true)))
-    go false e =
-        let l : b < p = leb-false p b e in
-        kept (p - suc b) (omega arith) ∙ sym (after-kept (suc b) (shows m) p l)
-
-pub cleared : (k m b : ℕ) → m < 2 ^ k → m / 2 ^ b * 2 ^ b % 2 ^ k ≡ maskUpTo k (atOrAfter (suc b) (shows m))
-cleared k m b h =
-    let fits : m / 2 ^ b * 2 ^ b < 2 ^ k = lt-of-le-of-lt (div-mul-le-self m (2 ^ b)) h in
-    rw (mod-eq-of-lt fits) (is-mask k (m / 2 ^ b * 2 ^ b) (atOrAfter (suc b) (shows m)) fits (λ p l r. shows-cleared m b p l))
-
-pub none-cleared : (k m pointer : ℕ) → m < 2 ^ k → pointer ≤ 1 → m ≡ maskUpTo k (atOrAfter pointer (shows m))
-none-cleared k m pointer h l = is-mask k m (atOrAfter pointer (shows m)) h (λ p q r. sym (after-kept pointer (shows m) p (omega arith)))
-
-pub all-cleared : (k m pointer : ℕ) → k < pointer → 0 ≡ maskUpTo k (atOrAfter pointer (shows m))
-all-cleared k m pointer h = empty-mask k (atOrAfter pointer (shows m)) (λ p l r. after-cleared pointer (shows m) p (omega arith))

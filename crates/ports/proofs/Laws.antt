@@ -1,5 +1,5 @@
 -- The facts that decide what `lowestFrom` answers, and that a mask answers as the set that it codes.
-use mathlib.Core.Path.{_≡_, refl, sym, ap, _∙_, subst}
+use mathlib.Core.Path.{_≡_, refl, sym, ap, _∙_}
 use mathlib.Core.Bool.{Bool, true, false, _&&_}
 use Prim.Native.Nat.{ℕ, suc, _≤_, _<_}
 use native.Mathlib.Omega.{arith}
@@ -62,12 +62,6 @@ unfolding lowestFrom
 right-lowest f pointer r a =
     answers-agree (atOrAfter pointer f) 1 (suc ports) (lowestFrom f pointer) r
     (first-answers ports (atOrAfter pointer f) 1 (suc ports) refl) (to-answers f pointer r a)
-
-pub port-lowest : (f : ℕ → Bool) (pointer p : ℕ) → lowestFrom f pointer ≡ Port p → Lowest f pointer p
-port-lowest f pointer p e = subst (Right f pointer) e (lowest-right f pointer)
-
-pub nothing-none : (f : ℕ → Bool) (pointer : ℕ) → lowestFrom f pointer ≡ Nothing → NoneAfter f pointer
-nothing-none f pointer e = subst (Right f pointer) e (lowest-right f pointer)
 
 -- ---- the same ports, the same answer
 

@@ -1,5 +1,5 @@
--- A hub's summary is true where it shows some port, and then a search from its first port finds one.
-use mathlib.Core.Path.{_≡_, refl, sym, ap₂, _∙_, subst}
+-- A hub's summary is true just where it shows some port.
+use mathlib.Core.Path.{_≡_, refl, sym, ap₂, _∙_}
 use mathlib.Core.Bool.{Bool, true, false, _||_, true≢false}
 use mathlib.Core.Logic.{_⊎_, inl, inr}
 use Prim.Native.Nat.{ℕ, zero, suc, _≤_, _<_}
@@ -7,11 +7,7 @@ use native.Mathlib.Nat.{eq-or-lt-of-le}
 use native.Mathlib.Omega.{arith}
 use Rattle.ports.specs.Ports.{ports, anyUpTo, anyPort}
 use Rattle.ports.specs.Mask.{shows, maskOf}
-use Rattle.ports.specs.Search.{lowestFrom}
-use Rattle.ports.specs.declared.Found.{Found}
-use Rattle.ports.specs.declared.Found.the-variants.{Port, Nothing}
 use Rattle.ports.proofs.Coding.{Same, shows-mask}
-use Rattle.ports.proofs.Laws.{nothing-none}
 
 pub any-cong : (k : ℕ) (f g : ℕ → Bool) → Same k f g → anyUpTo k f ≡ anyUpTo k g
 unfolding anyUpTo
@@ -56,20 +52,3 @@ sums-agree k f false false s r = refl
 
 pub sums-any : (k : ℕ) (f : ℕ → Bool) (b : Bool) → Sums k f b → anyUpTo k f ≡ b
 sums-any k f b s = sums-agree k f (anyUpTo k f) b (any-sums k f) s
-
-pub any-some : (k : ℕ) (f : ℕ → Bool) → anyUpTo k f ≡ true → Some k f
-any-some k f e = subst (Sums k f) e (any-sums k f)
-
-pub any-none : (k : ℕ) (f : ℕ → Bool) → anyUpTo k f ≡ false → None k f
-any-none k f e = subst (Sums k f) e (any-sums k f)
-
--- ---- a hub whose summary is true has a lowest port
-
-pub any-found : (f : ℕ → Bool) (pointer : ℕ) → anyPort f ≡ true → pointer ≤ 1 → (p : ℕ) × (lowestFrom f pointer ≡ Port p)
-any-found f pointer e h = go (lowestFrom f pointer) refl
-  where
-    go : (r : Found) → lowestFrom f pointer ≡ r → (p : ℕ) × (lowestFrom f pointer ≡ Port p)
-    go (Port p) s = (p, s)
-    go Nothing s =
-        let m = any-some ports f e in
-        absurd (true≢false (sym (m .3) ∙ nothing-none f pointer s (m .0) (m .1) (omega arith) (m .2)))

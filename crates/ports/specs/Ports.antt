@@ -1,18 +1,11 @@
 -- Sets of a hub's ports. A set is a test f, true of the ports in it.
 use mathlib.Core.Bool.{Bool, false, not, _&&_, _||_}
-use mathlib.Core.List.{List}
 use Prim.Native.Nat.{ℕ, zero, suc}
 use lib.Dec.{eqb, leb}
-use lib.ListN.{getD}
 
 -- a hub has at most 32 ports, numbered from 1
 abbrev pub ports : ℕ
 ports = 32
-
--- the ports whose summaries are true, port 1's first
-unfoldable pub summaryOf : List Bool → ℕ → Bool
-summaryOf summaries zero = false
-summaryOf summaries (suc i) = getD summaries i false
 
 -- f, and port p as well where b holds
 unfoldable pub withPort : (ℕ → Bool) → ℕ → Bool → ℕ → Bool

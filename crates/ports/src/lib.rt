@@ -1,6 +1,6 @@
 // A hub's ports as a mask of 32 bits: bit p - 1 says whether port p is shown. The contracts speak of ports alone.
 ghost use mathlib.Core.Path.{_≡_};
-ghost use Rattle.ports.specs.Ports.{summaryOf, withPort, putPort, atOrAfter, anyPort};
+ghost use Rattle.ports.specs.Ports.{withPort, putPort, anyPort};
 ghost use Rattle.ports.specs.Mask.{shows, maskOf};
 ghost use Rattle.ports.specs.Search.{lowestFrom};
 
@@ -31,36 +31,11 @@ pub fn put_port(mask: u32, port: u32, shown: bool) -> u32
     (mask & !bit) | ((shown as u32) << (port - 1))
 }
 
-// The mask of a hub's port summaries. That of port p stands at p - 1.
-pub fn built(summaries: &[bool; 32]) -> u32
-    ensures { λ r. ⌜ r ≡ maskOf (summaryOf (now (summaries .entry))) ⌝ }
-{
-    let mut mask: u32 = 0;
-    for place in 0..32 {
-        mask = with_port(mask, place + 1, summaries[place as usize]);
-    }
-    mask
-}
-
 // Whether some port is shown: a hub's summary for its parent.
 pub fn any_shown(mask: u32) -> bool
     ensures { λ r. ⌜ r ≡ anyPort (shows mask) ⌝ }
 {
     mask != 0
-}
-
-// The mask with the ports below `pointer` cleared. Past the last port that is all of them, and no shift goes so far.
-pub fn at_or_after(mask: u32, pointer: u32) -> u32
-    ensures { λ r. ⌜ r ≡ maskOf (atOrAfter pointer (shows mask)) ⌝ }
-{
-    if pointer < 1 {
-        return mask;
-    }
-    if 32 < pointer {
-        return 0;
-    }
-    let below = pointer - 1;
-    (mask >> below) << below
 }
 
 // The lowest-numbered port shown at or after `pointer`. The ports are rotated

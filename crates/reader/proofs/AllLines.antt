@@ -8,7 +8,7 @@ use borrow.Author.Tests.{eq-eqb, ne-eqb}
 use lib.Dec.{eqb}
 use lib.ListN.{length, drop, drop-of-length-le}
 use Rattle.text.specs.Part.{part}
-use Rattle.text.specs.Line.{nothing, ended, lines, nextNumber, nextLine}
+use Rattle.text.specs.Line.{ended, lines, nextNumber, nextLine}
 use Rattle.text.specs.declared.Cursor.{Cursor}
 use Rattle.text.specs.declared.Next.{Next}
 use Rattle.text.specs.declared.Next.the-variants.{Line, Unended, Done}

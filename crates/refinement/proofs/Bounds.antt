@@ -1,10 +1,9 @@
 -- A node that counts in class high has fewer high grants in the frame than a cell can say: its share fits in the frame.
-use Prim.Native.Nat.{ℕ, _+_, _*_, _≤_, _<_}
+use Prim.Native.Nat.{ℕ, _+_, _≤_, _<_}
 use mathlib.Core.Path.{_≡_}
 use mathlib.Core.Bool.{true}
 use native.Mathlib.Nat.{mul-le-mul-left}
 use native.Mathlib.Omega.{arith}
-use Rattle.rules.specs.Choice.{sum}
 use Rattle.rules.specs.Plan.{Plan}
 use Rattle.rules.specs.Call.{high}
 use Rattle.rules.specs.Core.{Core, countsIn}

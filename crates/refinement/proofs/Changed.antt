@@ -1,7 +1,7 @@
 -- A change of one node's cells: what counts elsewhere is as it was, so the masks are right but for that node.
-use Prim.Native.Nat.{ℕ, _+_, _-_, _*_, _≤_, _<_}
+use Prim.Native.Nat.{ℕ, _-_, _≤_, _<_}
 use mathlib.Core.Path.{_≡_, refl, sym, subst, _∙_}
-use mathlib.Core.Bool.{Bool, true, false, _&&_}
+use mathlib.Core.Bool.{Bool, true, false}
 use mathlib.Core.List.{List}
 use native.Mathlib.Omega.{arith}
 use borrow.Author.Tests.{leb-true, le-leb}
@@ -10,13 +10,13 @@ use lib.ListN.{length, getD}
 use Rattle.rules.specs.Choice.{if_then_else_, sum}
 use Rattle.ports.specs.Mask.{digit}
 use Rattle.rules.specs.Plan.{Plan}
-use Rattle.rules.specs.Drawn.{Drawn, Within}
+use Rattle.rules.specs.Drawn.{Within}
 use Rattle.rules.specs.Core.{countsIn}
 use Rattle.rules.proofs.Laws.Passes.{Which, which, yes′, no′, and-both}
-use Rattle.cells.specs.Layout.{cells, standing-cell, holder-cell, class-cell, nodeCell, maskCell, pointerCell, requestCell, forceCell, grantedCell, classOf}
+use Rattle.cells.specs.Layout.{cells, standing-cell, holder-cell, class-cell, nodeCell, maskCell, pointerCell, requestCell}
 use Rattle.cells.specs.Decode.{isNode, isHub, coreOf}
 use Rattle.cells.specs.Masks.{countsAt, stands}
-use Rattle.refinement.specs.Kept.{Ready, countsOf, MasksRight, RightBut, Pointing, Kept, standingIn, SameButMasks, Mended}
+use Rattle.refinement.specs.Kept.{countsOf, MasksRight, RightBut, Pointing, Kept, standingIn, Mended}
 use Rattle.refinement.proofs.Same.{counts-same, holder-no-mask, class-no-mask, standing-no-mask, pointer-no-mask, node-no-mask}
 
 -- ---- numbers of nodes and hubs

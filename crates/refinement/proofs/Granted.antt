@@ -1,22 +1,21 @@
 -- Node k is granted in a class: its request is removed and, in class high, a grant is counted.
-use Prim.Native.Nat.{ℕ, _+_, _*_, _≤_, _<_}
+use Prim.Native.Nat.{ℕ, _<_}
 use mathlib.Core.Path.{_≡_, refl, sym, ap, _∙_}
 use mathlib.Core.Bool.{Bool, true, false}
 use mathlib.Core.List.{List}
 use native.Mathlib.Omega.{arith}
 use borrow.Author.Tests.{lt-ltb, le-ltb}
-use lib.ListN.{length, getD, set, length-set}
+use lib.ListN.{getD, set, length-set}
 use lib.Seq.{getD-set-same, getD-set-other}
 use Rattle.rules.specs.Choice.{if_then_else_, put, sum}
-use Rattle.rules.specs.Plan.{Plan}
-use Rattle.rules.specs.Drawn.{Drawn, Within}
+use Rattle.rules.specs.Drawn.{Within}
 use Rattle.rules.specs.Call.{Class}
 use Rattle.rules.specs.Core.{Core, none, nothing-reserved}
 use Rattle.rules.specs.Machine.{oneMore}
 use Rattle.rules.specs.Rows.{withRequest}
 use Rattle.rules.proofs.Laws.Passes.{put-same, put-other}
 use Rattle.ports.specs.Mask.{digit}
-use Rattle.cells.specs.Layout.{cells, standing-cell, nodeCell, requestCell, grantedCell, classOf, requestOf, shareOf}
+use Rattle.cells.specs.Layout.{standing-cell, nodeCell, grantedCell, classOf, requestOf, shareOf}
 use Rattle.cells.specs.Decode.{planIn, isNode, coreOf, controlOf}
 use Rattle.cells.specs.Masks.{stands, grantedMore, grantNode}
 use Rattle.refinement.specs.Kept.{Ready, Kept, standingIn}

@@ -1,6 +1,6 @@
 -- The clock or the line changes: cells 0 to 4 alone. All else is kept.
 use Prim.Native.Nat.{ℕ, _+_, _*_, _/_, _%_, _≤_, _<_}
-use mathlib.Core.Path.{_≡_, refl, sym, ap, ap₂, subst, _∙_}
+use mathlib.Core.Path.{_≡_, sym, ap, ap₂, subst, _∙_}
 use mathlib.Core.Bool.{Bool, true, false}
 use mathlib.Core.List.{List}
 use native.Mathlib.Omega.{arith}
@@ -11,8 +11,7 @@ use Rattle.rules.specs.Choice.{if_then_else_, sum}
 use Rattle.rules.specs.Plan.{Plan}
 use Rattle.rules.specs.Drawn.{Within}
 use Rattle.rules.specs.Core.{Core, Line, none, nothing-reserved, resting, busy, countsIn}
-use Rattle.rules.specs.Control.{Control, atPort}
-use Rattle.rules.specs.Machine.{restful}
+use Rattle.rules.specs.Control.{atPort}
 use Rattle.ports.specs.Mask.{digit}
 use Rattle.cells.specs.Layout.{cells, two-32, timeAt, putTime, clock-cell, end-cell, busy-cell, holder-cell, class-cell, standing-cell, nodeCell, requestCell, maskCell, pointerCell, classOf, requestOf, shareOf, pointerOf}
 use Rattle.cells.specs.Decode.{isNode, isHub, isClassHigh, lineOf, coreOf, controlOf}
@@ -135,14 +134,3 @@ module _ (p : Plan) (s : List ℕ) (K : Kept p s) where
       K (timeAt s clock-cell) (busy end)
       (ap₂ (λ (x y : ℕ). x + y * two-32) (kept 0 (λ e. omega arith) (λ e. omega arith) (λ e. omega arith)) (kept 1 (λ e. omega arith) (λ e. omega arith) (λ e. omega arith)))
       (ap₂ (λ (x y : ℕ). if eqb x 0 then resting else busy y) on (time-put end-cell end b (omega (arith, long))))
-
-  -- the line rests
-  pub resting-left : Left p (calls.resting s) (restful (coreOf p s)) (controlOf p s)
-  unfolding coreOf calls.resting
-  resting-left =
-      let kept : (i : ℕ) → (i ≡ 4 → ⊥) → getD (set s busy-cell 0) i 0 ≡ getD s i 0 = λ i d. getD-set-other s busy-cell i 0 0 d in
-      head-left p s (set s busy-cell 0)
-      (record { size = simp length-set (K .size); same = λ i l. kept i (λ e. omega arith) })
-      K (timeAt s clock-cell) resting
-      (ap₂ (λ (x y : ℕ). x + y * two-32) (kept 0 (λ e. omega arith)) (kept 1 (λ e. omega arith)))
-      (ap (λ (x : ℕ). if eqb x 0 then resting else busy (timeAt (set s busy-cell 0) end-cell)) (getD-set-same s busy-cell 0 0 (omega (arith, K .size))))

@@ -2,43 +2,41 @@
 use Prim.Native.Nat.{ℕ, _+_, _≤_, _<_}
 use mathlib.Core.Path.{_≡_, refl, sym, ap, ap₂, subst, subst₂, _∙_}
 use mathlib.Core.Bool.{Bool, true, false}
-use mathlib.Core.List.{List, [], _∷_}
+use mathlib.Core.List.{List}
 use native.Mathlib.Omega.{arith}
 use borrow.Author.Tests.{ne-eqb, le-ltb}
 use lib.Dec.{eqb, ltb}
 use lib.ListN.{getD}
-use Rattle.rules.specs.Choice.{if_then_else_, any}
 use Rattle.rules.specs.Plan.{Plan}
-use Rattle.rules.specs.Drawn.{Drawn, Within}
-use Rattle.rules.specs.Call.{Class, normal, high, Call, ask, off, reserve, until, step, time, Answer, taken, refused, grant, rest, quiet}
+use Rattle.rules.specs.Drawn.{Within}
+use Rattle.rules.specs.Call.{Class, normal, high, Call, ask, off, reserve, until, step, time, taken, grant, rest}
 use Rattle.rules.specs.Core as rules
 use Rattle.rules.specs.Core.{Core, standing, bitsOf, before, advance, countsIn, due, sought}
 use Rattle.rules.specs.Rows.{Row, Verdict, accept, refuse, firstRow, row12, rows, withRequest, change}
 use Rattle.rules.specs.Machine.{Machine, Hub, Outcome, Turn, granting, grantTo, handled, stepAt, accepted, decided, perform}
 use Rattle.rules.specs.Control as hubs
 use Rattle.rules.specs.Control.{Control, control}
-use Rattle.rules.specs.Promises.{Askable, Acceptable, asks, leaves, reserves, waits, InRange, given-up, packets}
+use Rattle.rules.specs.Promises.{Acceptable, asks, leaves, reserves, waits, InRange, given-up, packets}
 use Rattle.rules.proofs.Laws.Passes.{Which, which, yes′, no′}
-use Rattle.rules.proofs.Laws.Clash.{clash}
 use Rattle.rules.proofs.Core.CallCases.{Event, asking, leaving, reserving, waiting}
+use Rattle.rules.proofs.Core.RefusalNumbers.{row-number}
 use Rattle.rules.proofs.Core.Acceptance.{acceptable}
 use Rattle.rules.proofs.Core.Sound.{Sound}
 use Rattle.rules.proofs.Flat.Turns.{Counting, node-counts}
 use Rattle.rules.proofs.Core.AlwaysSound.{Good, instant-sound, turn-counts}
 use Rattle.rules.proofs.Control.FollowsFlat.{control-follows}
-use Rattle.ports.specs.Mask.{digit}
 use Rattle.cells.specs.declared.Due.{Due}
 use Rattle.cells.specs.declared.Due.the-variants.{At, Never}
 use Rattle.cells.specs.declared.Sought.{Sought}
 use Rattle.cells.specs.declared.Sought.the-variants as seek
 use Rattle.cells.specs.declared.Step.the-variants.{Rest}
-use Rattle.cells.specs.Layout.{requestCell, classOf, requestOf, requestCode, putTime}
+use Rattle.cells.specs.Layout.{requestCell, classOf, requestOf, requestCode}
 use Rattle.cells.specs.Decode.{planIn, coreOf, controlOf, hubOf}
 use Rattle.cells.specs.Masks.{putRequest, grantNode}
 use Rattle.cells.specs.Frames.{advanceBy}
 use Rattle.cells.specs.Instants.{dueBy, dueIn, soughtBy, soughtIn}
 use Rattle.cells.specs.Turns as turns
-use Rattle.cells.specs.Calls.{row12By, rowsBy, numberOf, rowBy, changeBy, eventBy, bitsAt, busyUntil, classNumber, classNumbered, grantBy, restBy, handledBy, stepDue, stepBy, eventAnswer, stepAnswer, Performed, eventLeft, performBy}
+use Rattle.cells.specs.Calls.{row12By, rowsBy, numberOf, rowBy, changeBy, eventBy, bitsAt, busyUntil, classNumber, classNumbered, grantBy, handledBy, stepDue, stepBy, stepAnswer, Performed, eventLeft, performBy}
 use Rattle.refinement.specs.Kept.{Ready, Kept, countsOf}
 use Rattle.refinement.proofs.Changed.{kept-but, kept-right}
 use Rattle.refinement.proofs.Requested.{Left, own-field, request-left}
@@ -58,31 +56,6 @@ pub record Agrees (p : Plan) (x : Performed) (o : Outcome Control) : Type 0 wher
 
 -- ---- rows
 
--- no row has the number 0, which stands for taken
-Numbered : List Row → Type 0
-Numbered [] = Unit {0}
-Numbered (r ∷ rs) = (1 ≤ r .number) × Numbered rs
-
-first-number : (rs : List Row) → Numbered rs → (n : ℕ) → firstRow rs ≡ refuse n → 1 ≤ n
-unfolding Numbered
-first-number [] w n e = clash (cc)
-first-number (r ∷ rs) w n e = go (which (r .applies)) (first-number rs (w .1) n)
-  where
-    go : Which (r .applies) → (firstRow rs ≡ refuse n → 1 ≤ n) → 1 ≤ n
-    go (yes′ a) more =
-        let f : refuse (r .number) ≡ refuse n = rw a at e in
-        let g : r .number ≡ n = cc in
-        omega (arith, w .0)
-    go (no′ a) more = more (rw a at e)
-
-rows-numbered : (p : Plan) (s : Core) (call : Call) → Numbered (rows p s call)
-unfolding Numbered
-rows-numbered p s (ask c t k b) = omega arith
-rows-numbered p s (off t k) = omega arith
-rows-numbered p s (reserve t k n b) = omega arith
-rows-numbered p s (until t) = omega arith
-rows-numbered p s (step t) = omega arith
-
 module _ (P : List ℕ) (R : Ready P) (s : List ℕ) (K : Kept (planIn P) s) where
   row-tied : (t : ℕ) → row12By (planIn P) s t ≡ row12 (planIn P) (coreOf (planIn P) s) t
   row-tied t i = record { number = 12; applies = before (due-tied P R s K i) t }
@@ -100,9 +73,10 @@ module _ (P : List ℕ) (R : Ready P) (s : List ℕ) (K : Kept (planIn P) s) whe
   unfolding rowBy
   number-tied call v e = ap (λ (rs : List Row). numberOf (firstRow rs)) (rows-tied call) ∙ ap numberOf e
 
+  -- 0 stands for taken
   refused-number : (call : Call) (n : ℕ) → firstRow (rows (planIn P) (coreOf (planIn P) s) call) ≡ refuse n → eqb n 0 ≡ false
   refused-number call n e =
-      ne-eqb n 0 (λ z. omega (arith, first-number (rows (planIn P) (coreOf (planIn P) s) call) (rows-numbered (planIn P) (coreOf (planIn P) s) call) n e))
+      ne-eqb n 0 (λ z. omega (arith, row-number (planIn P) (coreOf (planIn P) s) call n e))
 
   -- nothing changes
   unchanged : Left (planIn P) s (coreOf (planIn P) s) (controlOf (planIn P) s)

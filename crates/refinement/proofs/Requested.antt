@@ -5,25 +5,25 @@ use mathlib.Core.Path.{_≡_, refl, sym, ap, ap₂, subst, _∙_}
 use mathlib.Core.Bool.{Bool, true, false}
 use mathlib.Core.List.{List}
 use native.Mathlib.Omega.{arith}
-use borrow.Author.Tests.{lt-ltb, le-ltb, eqb-true, eqb-false}
-use lib.Dec.{eqb, ltb}
+use borrow.Author.Tests.{le-ltb, eqb-true, eqb-false}
+use lib.Dec.{eqb}
 use lib.ListN.{length, getD, set, length-set}
 use lib.Seq.{getD-set-same, getD-set-other}
-use Rattle.rules.specs.Choice.{if_then_else_, put}
+use Rattle.rules.specs.Choice.{if_then_else_}
 use Rattle.rules.specs.Plan.{Plan}
-use Rattle.rules.specs.Drawn.{Drawn, Within}
-use Rattle.rules.specs.Core.{Core, Request, none, Share, Line, nothing-reserved, resting, busy}
+use Rattle.rules.specs.Drawn.{Within}
+use Rattle.rules.specs.Core.{Core, none, nothing-reserved}
 use Rattle.rules.specs.Call.{Class}
-use Rattle.rules.specs.Control.{Control, atPort}
+use Rattle.rules.specs.Control.{Control}
 use Rattle.rules.specs.Rows.{withRequest}
 use Rattle.rules.proofs.Laws.Passes.{Which, which, yes′, no′, put-same, put-other}
-use Rattle.cells.specs.Layout.{cells, two-32, timeAt, clock-cell, end-cell, busy-cell, standing-cell, holder-cell, class-cell, nodeCell, requestCell, forceCell, latestCell, grantedCell, pointerCell, classOf, requestOf, shareOf, pointerOf}
+use Rattle.cells.specs.Layout.{cells, two-32, timeAt, clock-cell, standing-cell, nodeCell, requestCell, pointerCell, classOf, requestOf, shareOf}
 use Rattle.cells.specs.Decode.{planIn, isNode, isHub, isClassHigh, lineOf, coreOf, controlOf}
 use Rattle.cells.specs.Masks.{standingAfter, putRequest, mendNode}
-use Rattle.refinement.specs.Kept.{Ready, RightBut, Kept, Mended, Pointing, standingIn}
+use Rattle.refinement.specs.Kept.{Ready, RightBut, Kept, Pointing, standingIn}
 use Rattle.refinement.proofs.Same.{core-same, control-same}
 use Rattle.refinement.proofs.Mended.{mended}
-use Rattle.refinement.proofs.Changed.{Change, Elsewhere, KeptBut, right-but, mended-kept, other-cell, node-within, within-node, hub-within}
+use Rattle.refinement.proofs.Changed.{Change, KeptBut, right-but, mended-kept, other-cell, node-within, within-node, hub-within}
 use Rattle.refinement.proofs.Standing.{standing-after}
 
 -- what a call leaves: cells that are kept, with this core and this control

@@ -1,22 +1,22 @@
 -- A node's latest reservation changes: nothing that counts depends on it.
-use Prim.Native.Nat.{ℕ, _+_, _*_, _/_, _%_, _≤_, _<_}
+use Prim.Native.Nat.{ℕ, _+_, _*_, _/_, _%_, _<_}
 use mathlib.Core.Path.{_≡_, refl, sym, ap, subst, _∙_}
-use mathlib.Core.Bool.{Bool, true, false}
+use mathlib.Core.Bool.{Bool, false}
 use mathlib.Core.List.{List}
 use native.Mathlib.Omega.{arith}
-use lib.ListN.{length, getD, set, length-set}
+use lib.ListN.{getD, set, length-set}
 use lib.Seq.{getD-set-same, getD-set-other}
 use Rattle.rules.specs.Choice.{if_then_else_, sum}
-use Rattle.rules.specs.Drawn.{Drawn, Within}
-use Rattle.rules.specs.Core.{Share, none, nothing-reserved}
+use Rattle.rules.specs.Drawn.{Within}
+use Rattle.rules.specs.Core.{none, nothing-reserved}
 use Rattle.rules.specs.Rows.{withLatest}
 use Rattle.rules.proofs.Laws.Passes.{put-same, put-other}
 use Rattle.ports.specs.Mask.{digit}
-use Rattle.cells.specs.Layout.{cells, standing-cell, nodeCell, latestCell, shareOf, shareCode, requestOf}
+use Rattle.cells.specs.Layout.{standing-cell, nodeCell, latestCell, shareOf, shareCode, requestOf}
 use Rattle.cells.specs.Decode.{planIn, isNode, coreOf, controlOf}
-use Rattle.cells.specs.Masks.{countsBy, countsAt, stands}
+use Rattle.cells.specs.Masks.{countsBy, stands}
 use Rattle.refinement.specs.Kept.{Ready, countsOf, MasksRight, Kept, standingIn}
-use Rattle.refinement.proofs.Changed.{Change, KeptBut, kept-but, counts-cells, others-count, mask-cell}
+use Rattle.refinement.proofs.Changed.{Change, kept-but, counts-cells, others-count, mask-cell}
 use Rattle.refinement.proofs.Requested.{Left, own-field, agree, change-but, change-control, change-core}
 
 -- a reservation that was coded is read again

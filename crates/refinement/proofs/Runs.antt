@@ -4,13 +4,12 @@ use mathlib.Core.Path.{_≡_, refl, sym, ap, ap₂, subst, _∙_}
 use mathlib.Core.List.{List, [], _∷_}
 use Rattle.rules.specs.Call.{Call, Answer}
 use Rattle.rules.specs.Core.{Core}
-use Rattle.rules.specs.Drawn.{Drawn}
-use Rattle.rules.specs.Machine.{Hub, Outcome, perform}
+use Rattle.rules.specs.Machine.{Hub, perform}
 use Rattle.rules.specs.Control.{Control, control}
 use Rattle.rules.specs.Run.{Entry, made}
 use Rattle.rules.proofs.Core.AlwaysSound.{Good, good}
 use Rattle.rules.proofs.Control.FollowsFlat.{control-follows}
-use Rattle.cells.specs.Decode.{planIn, coreOf, controlOf, hubOf}
+use Rattle.cells.specs.Decode.{planIn, hubOf}
 use Rattle.cells.specs.Calls.{performBy}
 use Rattle.cells.specs.Run.{madeBy}
 use Rattle.refinement.specs.Kept.{Ready, Kept}

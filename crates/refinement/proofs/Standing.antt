@@ -5,11 +5,11 @@ use mathlib.Core.Bool.{Bool, true, false}
 use mathlib.Core.List.{List}
 use native.Mathlib.Omega.{arith}
 use borrow.Author.Tests.{lt-ltb, eqb-true, eqb-false}
-use lib.Dec.{ltb, eqb}
+use lib.Dec.{eqb}
 use lib.ListN.{getD}
-use Rattle.rules.specs.Choice.{if_then_else_, put, sum}
+use Rattle.rules.specs.Choice.{put, sum}
 use Rattle.rules.specs.Drawn.{Within}
-use Rattle.rules.proofs.Laws.Passes.{Which, which, yes′, no′, put-same, put-other, sum-same, sum-mono, sum-put}
+use Rattle.rules.proofs.Laws.Passes.{Which, which, yes′, no′, sum-same, sum-mono, sum-put}
 use Rattle.ports.specs.Mask.{digit}
 use Rattle.cells.specs.Layout.{requestCell}
 use Rattle.cells.specs.Masks.{stands, standingAfter}

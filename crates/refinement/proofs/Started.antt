@@ -1,5 +1,5 @@
 -- The start of a frame over the cells, node by node, is the frame start of `rules`; and so the clock's coming to t.
-use Prim.Native.Nat.{ℕ, zero, suc, _+_, _*_, _/_, _%_, _≤_, _<_}
+use Prim.Native.Nat.{ℕ, zero, suc, _+_, _%_, _≤_, _<_}
 use mathlib.Core.Path.{_≡_, refl, sym, ap, subst, _∙_}
 use mathlib.Core.Bool.{Bool, true, false, _||_, and-false}
 use mathlib.Core.List.{List}
@@ -8,20 +8,18 @@ use borrow.Author.Tests.{ltb-true, ltb-false, lt-ltb, le-ltb, le-leb, lt-leb, le
 use lib.Dec.{eqb, ltb, leb}
 use lib.ListN.{length, getD, set, length-set}
 use lib.Seq.{getD-set-same, getD-set-other}
-use Rattle.rules.specs.Choice.{if_then_else_, put, sum}
-use Rattle.rules.specs.Plan.{Plan}
-use Rattle.rules.specs.Drawn.{Drawn, Within}
+use Rattle.rules.specs.Choice.{if_then_else_, put}
+use Rattle.rules.specs.Drawn.{Within}
 use Rattle.rules.specs.Call.{normal, high}
-use Rattle.rules.specs.Core.{Core, Request, none, standing, Share, nothing-reserved, isClass, reclassed, frameOf, frameStart, sameFrame, advance, countsIn}
-use Rattle.rules.specs.Control.{Control}
+use Rattle.rules.specs.Core.{Core, Request, none, standing, Share, nothing-reserved, isClass, reclassed, frameStart, advance}
 use Rattle.rules.proofs.Laws.Passes.{Which, which, yes′, no′, put-same, put-other, sum-same}
 use Rattle.ports.specs.Mask.{digit}
-use Rattle.cells.specs.Layout.{cells, standing-cell, clock-cell, timeAt, nodeCell, requestCell, forceCell, latestCell, grantedCell, requestOf, requestCode, shareOf}
+use Rattle.cells.specs.Layout.{standing-cell, nodeCell, requestCell, forceCell, latestCell, grantedCell, requestOf, requestCode, shareOf}
 use Rattle.cells.specs.Decode.{planIn, isNode, coreOf, controlOf}
 use Rattle.cells.specs.Masks.{stands, countsBy, countsAt}
 use Rattle.cells.specs.Frames.{startCells, startNode, startNodes, newFrame, advanceBy}
 use Rattle.refinement.specs.Kept.{Ready, countsOf, MasksRight, Kept, standingIn}
-use Rattle.refinement.proofs.Changed.{Change, KeptBut, kept-but, kept-right, right-but, others-count, counts-cells, within-node, mask-cell, other-cell}
+use Rattle.refinement.proofs.Changed.{Change, KeptBut, kept-but, kept-right, right-but, others-count, counts-cells, mask-cell, other-cell}
 use Rattle.refinement.proofs.Requested.{Left, own-field, agree, core-path, change-but, change-control, change-core, mended-left}
 use Rattle.refinement.proofs.Headed.{headed, clock-left}
 

@@ -18,9 +18,6 @@ module _ (k : ℕ) (a b : List ℕ) where
   past-nodes : most-nodes < k → b ≡ ifNode k a b
   past-nodes l = simp (le-ltb k 1 (omega arith), lt-ltb most-nodes k l)
 
-  at-node : 1 ≤ k → k ≤ most-nodes → a ≡ ifNode k a b
-  at-node l h = simp (le-ltb k 1 l, le-ltb most-nodes k h)
-
 module _ (P : List ℕ) (k : ℕ) (s : List ℕ) where
   pub mend-below : k < 1 → s ≡ mendNode P k s
   unfolding mendNode

@@ -1,7 +1,8 @@
 -- The core (clock, requests, line, reservations) at every place of a run, whatever machine gives the turns.
 --
 -- First, one call. RowsPassed: each row's test fails just where its rule holds. CallCases: a call goes in one of five ways, and each shows
--- what the hub was before; every later induction over calls goes by these five. Acceptance: an event is taken just where no row refuses it.
+-- what the hub was before; every later induction over calls goes by these five. RefusalNumbers: a refusal's number is from 11 to 17.
+-- Acceptance: an event is taken just where no row refuses it.
 -- Then what holds at every place. `Sound` (in Sound) says it of the core alone: reservations fit the frame,
 -- no node has more high grants there than its n, requests are in range, and the line ends within a packet.
 -- Instants, Requests, SoundChanges and ClockAdvance: each change keeps it. AlwaysSound: the induction.
@@ -12,6 +13,7 @@
 -- frames), Places (each place is the end of an earlier run), EventChanges.
 pub mod RowsPassed
 pub mod CallCases
+pub mod RefusalNumbers
 pub mod Acceptance
 pub mod Sound
 pub mod Instants

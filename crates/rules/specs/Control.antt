@@ -4,7 +4,7 @@ use mathlib.Core.Bool.{Bool, true, false, _&&_}
 use lib.Dec.{eqb}
 use Rattle.rules.specs.Choice.{if_then_else_, put, any, first}
 use Rattle.rules.specs.Plan.{Plan, Port, node, empty, hub, most-levels}
-use Rattle.rules.specs.Call.{Class, normal, high, same}
+use Rattle.rules.specs.Call.{Class, normal, same}
 use Rattle.rules.specs.Machine.{Machine, Turn, Rest}
 
 -- a pointer to a port, with a mark (unfinished) or none

@@ -2,7 +2,7 @@
 -- reservations, high grants. "Events" (frames) and "Selection" (instants).
 use Prim.Native.Nat.{ℕ, _+_, _*_, _/_}
 use mathlib.Core.Bool.{Bool, true, false, not, _&&_, _||_}
-use lib.Dec.{ltb, leb, eqb}
+use lib.Dec.{ltb, eqb}
 use Rattle.rules.specs.Choice.{if_then_else_, any}
 use Rattle.rules.specs.Plan.{Plan}
 use Rattle.rules.specs.Call.{Class, normal, high}

@@ -1,11 +1,11 @@
 -- "The flat rule": one large two-priority round-robin hub.
 use Prim.Native.Nat.{ℕ, _+_, _-_}
-use mathlib.Core.Bool.{Bool, true, false}
+use mathlib.Core.Bool.{Bool}
 use lib.Dec.{eqb}
 use Rattle.rules.specs.Choice.{if_then_else_, first}
 use Rattle.rules.specs.Plan.{Plan}
 use Rattle.rules.specs.Call.{Class, same}
-use Rattle.rules.specs.Machine.{Machine, Turn, Rest}
+use Rattle.rules.specs.Machine.{Machine}
 
 -- each class has a pointer over nodes 1 to N
 abbrev pub Pointers : Type 0

@@ -1,10 +1,10 @@
 -- A hub is a core and a machine that gives turns. Events and the step are defined once, over any turn machine.
 use Prim.Native.Nat.{ℕ, _+_}
-use mathlib.Core.Bool.{Bool, true, false}
+use mathlib.Core.Bool.{Bool}
 use Rattle.rules.specs.Choice.{if_then_else_, put}
 use Rattle.rules.specs.Plan.{Plan}
-use Rattle.rules.specs.Call.{Class, normal, high, Call, ask, off, reserve, until, step, time, Answer, taken, refused, grant, rest, quiet}
-use Rattle.rules.specs.Core.{Core, Line, resting, busy, none, bitsOf, advance, countsIn, Due, never, at, due, before, Sought, nothing, class, sought}
+use Rattle.rules.specs.Call.{Class, normal, high, Call, ask, off, reserve, until, step, Answer, taken, refused, grant, rest, quiet}
+use Rattle.rules.specs.Core.{Core, resting, busy, none, bitsOf, advance, countsIn, Due, never, at, due, before, Sought, nothing, class, sought}
 use Rattle.rules.specs.Rows.{Verdict, accept, refuse, firstRow, rows, change}
 
 -- a turn: the node that it goes to, the machine's next state, and the moves of control

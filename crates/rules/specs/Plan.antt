@@ -1,5 +1,5 @@
 -- "The plan": its figures and its tree of hubs, as tables. Nodes, hubs and ports are numbered from 1; hub 1 is the root.
-use Prim.Native.Nat.{ℕ, zero, suc, _+_, max}
+use Prim.Native.Nat.{ℕ, zero, suc, max}
 
 pub data Port : Type 0 where
   node : ℕ → Port

@@ -1,12 +1,12 @@
 -- "Where each no is said": the rows for events and steps, in the table's order, and what an accepted event changes.
 use Prim.Native.Nat.{ℕ, _+_, _*_}
-use mathlib.Core.Bool.{Bool, true, false, not, _&&_, _||_}
+use mathlib.Core.Bool.{Bool, false, not, _||_}
 use mathlib.Core.List.{List, [], _∷_}
-use lib.Dec.{ltb, leb, eqb}
+use lib.Dec.{ltb, eqb}
 use Rattle.rules.specs.Choice.{if_then_else_, put, sum}
 use Rattle.rules.specs.Plan.{Plan, shortest, longest}
-use Rattle.rules.specs.Call.{Class, normal, high, Call, ask, off, reserve, until, step, time}
-use Rattle.rules.specs.Core.{Core, Share, Request, none, standing, Due, advance, due, before}
+use Rattle.rules.specs.Call.{Class, normal, high, Call, ask, off, reserve, until, step}
+use Rattle.rules.specs.Core.{Core, Share, Request, none, standing, advance, due, before}
 
 -- a row of the table: its number, and whether its condition holds
 pub record Row : Type 0 where

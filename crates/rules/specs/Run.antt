@@ -3,7 +3,7 @@ use mathlib.Core.List.{List, [], _∷_, map, reverse}
 use Rattle.rules.specs.Plan.{Plan}
 use Rattle.rules.specs.Call.{Call, Answer}
 use Rattle.rules.specs.Core.{fresh}
-use Rattle.rules.specs.Machine.{Machine, Hub, Outcome, perform}
+use Rattle.rules.specs.Machine.{Machine, Hub, perform}
 
 -- a call with its answer
 pub record Entry : Type 0 where

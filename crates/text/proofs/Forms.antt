@@ -1,23 +1,20 @@
 -- The law of reading and drawing forms: a line is read as a word and these numbers just where it is drawn from them. Assumes nothing.
 use mathlib.Core.Path.{_≡_, refl, ap, _∙_}
-use mathlib.Core.Bool.{Bool, true, false, not}
+use mathlib.Core.Bool.{Bool, true, false}
 use mathlib.Core.Logic.{_↔_}
 use mathlib.Core.List.{List, [], _∷_, _++_}
 use mathlib.Core.Option.{Option, none, some}
 use Prim.Native.Nat.{ℕ, zero, suc, _+_, _*_, _≤_}
 use native.Mathlib.Omega.{arith}
-use borrow.Author.Tests.{eqb-true, ne-eqb}
+use borrow.Author.Tests.{eqb-true}
 use lib.Dec.{eqb}
-use lib.ListN.{length, drop, getD, length-append}
+use lib.ListN.{length, drop, length-append}
 use lib.Seq.{drop-append-seam}
-use Rattle.text.specs.Line.{noLF}
 use Rattle.text.specs.Number.{digits, digitRun, keepDigit, readNumber}
 use Rattle.text.specs.Word.{startsWith, isWord}
-use Rattle.text.specs.Form.{drawNumbers, drawForm, Small, andThen, readSpaced, readClose, readNumbers, readBehind, readForm, formOf}
-use Rattle.text.specs.declared.Form.the-variants.{Numbers, NoForm}
-use Rattle.text.proofs.Run.{digit-range}
-use Rattle.text.proofs.Words.{both, starts-append, starts-split, is-word-same, is-word}
-use Rattle.text.proofs.Digits.{digits-length, digits-all, AllDigits}
+use Rattle.text.specs.Form.{drawNumbers, drawForm, Small, andThen, readSpaced, readClose, readNumbers, readBehind, readForm}
+use Rattle.text.proofs.Words.{starts-append, starts-split, is-word-same, is-word}
+use Rattle.text.proofs.Digits.{digits-length}
 use Rattle.text.proofs.Numbers.{Written, read-written, written-read}
 
 -- behind a number there is a space or the bracket
@@ -93,18 +90,6 @@ pub form-law : (word : List ℕ) (count : ℕ) (line ns : List ℕ)
     → (readForm word count line ≡ some ns) ↔ ((line ≡ drawForm word ns) × (length ns ≡ count) × Small ns)
 form-law word count line ns = (drawn-read word count line ns, λ d. rw (d .0, ← (d .1)) (read-drawn word ns (d .2)))
 
--- what an answer of `form_at` says
-pub formed : (o : Option (List ℕ)) (a b c d : ℕ) → formOf o ≡ Numbers a b c d
-    → (ns : List ℕ) × (o ≡ some ns) × (a ≡ getD ns 0 0) × (b ≡ getD ns 1 0) × (c ≡ getD ns 2 0) × (d ≡ getD ns 3 0)
-unfolding formOf
-formed none a b c d h = let z : _≡_ {A = ℕ} 0 1 = cc in absurd (omega arith)
-formed (some ns) a b c d h = (ns, refl, cc, cc, cc, cc)
-
-pub not-formed : (o : Option (List ℕ)) → formOf o ≡ NoForm → o ≡ none
-unfolding formOf
-not-formed none h = refl
-not-formed (some ns) h = cc
-
 -- how long a drawn form is: no form of at most 4 numbers and a word of at most 11 bytes is longer than 80 bytes
 drawn-numbers-length : (ns : List ℕ) → Small ns → length (drawNumbers ns) ≤ 17 * length ns + 1
 unfolding drawNumbers
@@ -115,27 +100,3 @@ drawn-numbers-length (n ∷ ns) small =
 pub drawn-length : (word ns : List ℕ) → Small ns → length (drawForm word ns) ≤ length word + 17 * length ns + 1
 unfolding drawForm
 drawn-length word ns small = rw (length-append word (drawNumbers ns)) (omega (arith, drawn-numbers-length ns small))
-
--- a drawn form stands on one line
-noLF-append : (a b : List ℕ) → noLF a ≡ true → noLF b ≡ true → noLF (a ++ b) ≡ true
-unfolding noLF
-noLF-append [] b h k = k
-noLF-append (x ∷ a) b h k =
-    let p = both (not (eqb x 10)) (noLF a) h in
-    rw (p .0, noLF-append a b (p .1) k)
-
-digits-noLF : (ds : List ℕ) → AllDigits ds → noLF ds ≡ true
-unfolding noLF
-digits-noLF [] all = refl
-digits-noLF (d ∷ ds) all =
-    let r = digit-range d (all .0) in
-    rw (ne-eqb d 10 (omega arith), digits-noLF ds (all .1))
-
-drawn-numbers-noLF : (ns : List ℕ) → noLF (drawNumbers ns) ≡ true
-unfolding noLF drawNumbers
-drawn-numbers-noLF [] = refl
-drawn-numbers-noLF (n ∷ ns) = noLF-append (digits n) (drawNumbers ns) (digits-noLF (digits n) (digits-all n)) (drawn-numbers-noLF ns)
-
-pub drawn-noLF : (word ns : List ℕ) → noLF word ≡ true → noLF (drawForm word ns) ≡ true
-unfolding drawForm
-drawn-noLF word ns h = noLF-append word (drawNumbers ns) h (drawn-numbers-noLF ns)

@@ -24,10 +24,6 @@ pub range-digit : (b : ℕ) → 48 ≤ b → b ≤ 57 → isDigit b ≡ true
 range-digit b low high = simp (le-leb 48 b low, le-leb b 57 high)
 
 -- where the byte at the front is not 0 there is one
-pub front-there : (s : List ℕ) → 1 ≤ getD s 0 0 → s ≡ getD s 0 0 ∷ drop 1 s
-front-there [] h = absurd (omega arith)
-front-there (b ∷ s) h = refl
-
 pub front-length : (s : List ℕ) → 1 ≤ getD s 0 0 → 1 ≤ length s
 front-length [] h = absurd (omega arith)
 front-length (b ∷ s) h = omega arith

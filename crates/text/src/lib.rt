@@ -3,10 +3,10 @@
 // for every input, by a definition of specs/.
 ghost use mathlib.Core.Path.{_≡_};
 ghost use Prim.Native.Nat.{_+_, _-_, _^_, _≤_, _<_};
-ghost use lib.ListN.{length, drop, getD};
+ghost use lib.ListN.{getD};
 ghost use Rattle.text.specs.Part.{part};
 ghost use Rattle.text.specs.Line.{nextLine, nextNumber};
-ghost use Rattle.text.specs.Number.{digits, isDigit, digitRun, restAt, numberAt};
+ghost use Rattle.text.specs.Number.{isDigit, digitRun, restAt, numberAt};
 ghost use Rattle.text.specs.Word.{startsWith, isWord};
 ghost use Rattle.text.specs.Form.{readNumbers, formOf, formAt};
 

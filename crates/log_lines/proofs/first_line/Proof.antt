@@ -1,13 +1,11 @@
 -- `log_lines::first_line` meets its contract: a taken plan's line, and a refused one's. Assumes nothing.
 use mathlib.Core.Path.{_≡_}
-use mathlib.Core.List.{[], _∷_}
 use Prim.Native.Nat.{ℕ}
 use borrow.Author.Needs.{needs}
 use Rattle.plan.specs.declared.Answer.{Answer}
 use Rattle.plan.specs.declared.Answer.the-variants.{Taken, Refused}
-use Rattle.writer.specs.Write.{drawLine}
-use Rattle.log_lines.specs.FirstLine.{refused-word, nodesLine, refusedLine, firstLine}
-use Rattle.log_lines.proofs.Wrote.{put-same}
+use Rattle.log_lines.specs.FirstLine.{nodesLine, refusedLine, firstLine}
+use Rattle.log_lines.proofs.PutSame.{put-same-3}
 use Rattle.log_lines.proofs.first_line.Statement.{statement}
 use Rattle.log_lines.proofs.first_line.Tie as tie
 
@@ -16,8 +14,8 @@ taken : (x : Answer) (nodes hubs at line : ℕ) → x ≡ Taken nodes hubs at li
 unfolding firstLine
 taken x nodes hubs at line e = rw e
 
-refused : (x : Answer) (line number : ℕ) → x ≡ Refused line number → drawLine refused-word (line ∷ number ∷ []) ≡ firstLine x
-unfolding firstLine refusedLine
+refused : (x : Answer) (line number : ℕ) → x ≡ Refused line number → refusedLine line number ≡ firstLine x
+unfolding firstLine
 refused x line number e = rw e
 
 enum-known-answer : tie.Need-enum-known-answer
@@ -29,17 +27,11 @@ nodes-line-requires c κs = search needs
 enum-known-answer-2 : tie.Need-enum-known-answer-2
 enum-known-answer-2 c = search needs
 
-cast-t15 : tie.Need-cast-t15
-cast-t15 c = search needs
+cast-refused-line : tie.Need-cast-refused-line
+cast-refused-line c = search needs
 
-slice-aggregate-put-form : tie.Need-slice-aggregate-put-form
-slice-aggregate-put-form c = search needs
-
-slice-aggregate-put-form-2 : tie.Need-slice-aggregate-put-form-2
-slice-aggregate-put-form-2 c = search needs
-
-put-form-requires : tie.Need-put-form-requires
-put-form-requires c κs = search needs
+refused-line-requires : tie.Need-refused-line-requires
+refused-line-requires c κs = search needs
 
 same-length : tie.Need-same-length
 same-length c = search needs
@@ -49,19 +41,18 @@ returns c =
     let a = c .before .before .before .before .before .before .before .before .args in
     let g = c .before .before .before .before .before .answer .given in
     let p = c .before .before .nodes-line in
-    let q = put-same (a .write) (a .buffer .now) (a .at) (p .result) (p .last .1 .1 .1 .0) (p .ensures) (taken (a .answer) (g .0 .0) (g .0 .1 .0) (g .0 .1 .1 .0) (g .0 .1 .1 .1 .0) (g .1)) in
-    (q .0, (q .1, q .2))
+    put-same-3 (a .write) (a .buffer .now) (a .at) (p .result) (p .last .1 .1 .1 .0) (p .ensures) (taken (a .answer) (g .0 .0) (g .0 .1 .0) (g .0 .1 .1 .0) (g .0 .1 .1 .1 .0) (g .1))
 
 same-length-2 : tie.Need-same-length-2
 same-length-2 c = search needs
 
 returns-2 : tie.Need-returns-2
 returns-2 c =
-    let a = c .before .before .before .before .before .before .before .before .before .before .args in
-    let g = c .before .before .before .before .before .before .before .answer2 .given in
-    let p = c .before .before .put-form in
-    let q = put-same (a .write) (a .buffer .now) (a .at) (p .result) (p .last .1 .0) (p .ensures) (refused (a .answer) (g .0 .0) (g .0 .1 .0) (g .1)) in
-    (q .0, (q .1, q .2))
+    let a = c .before .before .before .before .before .before .before .before .args in
+    let g = c .before .before .before .before .before .answer2 .given in
+    let p = c .before .before .refused-line in
+    let q = p .ensures in
+    put-same-3 (a .write) (a .buffer .now) (a .at) (p .result) (p .last .1 .1 .1 .0) (q .0, q .1 .0, q .1 .1) (refused (a .answer) (g .0 .0) (g .0 .1 .0) (g .1))
 
 pub first-line-spec : {M : Type 1} → statement M
 first-line-spec =
@@ -70,10 +61,8 @@ first-line-spec =
     enum-known-answer
     nodes-line-requires
     enum-known-answer-2
-    cast-t15
-    slice-aggregate-put-form
-    slice-aggregate-put-form-2
-    put-form-requires
+    cast-refused-line
+    refused-line-requires
     same-length
     returns
     same-length-2

@@ -7,7 +7,7 @@ use native.Mathlib.Omega.{arith}
 use lib.ListN.{length, take, length-take}
 use Rattle.writer.specs.Write.{drawLine}
 use Rattle.log_lines.specs.FirstLine.{nodesLine}
-use Rattle.log_lines.proofs.Wrote.{put-same}
+use Rattle.log_lines.proofs.PutSame.{put-same}
 use Rattle.log_lines.proofs.nodes_line.Statement.{statement}
 use Rattle.log_lines.proofs.nodes_line.Tie as tie
 

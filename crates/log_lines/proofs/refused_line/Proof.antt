@@ -2,7 +2,7 @@
 use mathlib.Core.Path.{refl}
 use borrow.Author.Needs.{needs}
 use Rattle.log_lines.specs.FirstLine.{refusedLine}
-use Rattle.log_lines.proofs.PutSame.{put-same}
+use Rattle.log_lines.proofs.PutSame.{put-same-3}
 use Rattle.log_lines.proofs.refused_line.Statement.{statement}
 use Rattle.log_lines.proofs.refused_line.Tie as tie
 
@@ -23,7 +23,7 @@ unfolding refusedLine
 returns c =
     let a = c .before .before .before .before .before .before .before .args in
     let p = c .before .before .put-form in
-    put-same (a .write) (a .buffer .now) (a .at) (p .result) (p .last .1 .0) (p .ensures) refl
+    put-same-3 (a .write) (a .buffer .now) (a .at) (p .result) (p .last .1 .0) (p .ensures) refl
 
 pub refused-line-spec : {M : Type 1} → statement M
 refused-line-spec =

@@ -7,7 +7,7 @@ use Rattle.cells.specs.declared.Step.{Step}
 use Rattle.cells.specs.declared.Step.the-variants.{Grant, Rest, Quiet, Refused}
 use Rattle.writer.specs.Write.{drawLine}
 use Rattle.log_lines.specs.Lines.{grant-word, rest-word, grantLine, restLine, stepLine}
-use Rattle.log_lines.proofs.PutSame.{put-same, none-same}
+use Rattle.log_lines.proofs.PutSame.{put-same-3, none-same}
 use Rattle.log_lines.proofs.step_line.Statement.{statement}
 use Rattle.log_lines.proofs.step_line.Tie as tie
 
@@ -84,7 +84,7 @@ returns c =
     let a = c .before .before .before .before .before .before .before .before .before .before .args in
     let g = c .before .before .before .before .before .before .before .step .given in
     let p = c .before .before .put-form in
-    put-same (a .write) (a .buffer .now) (a .at) (p .result) (p .last .1 .0) (p .ensures) (granted (a .step) (g .0 .0) (g .0 .1 .0) (g .0 .1 .1 .0) (g .0 .1 .1 .1 .0) (g .0 .1 .1 .1 .1 .0) (g .1))
+    put-same-3 (a .write) (a .buffer .now) (a .at) (p .result) (p .last .1 .0) (p .ensures) (granted (a .step) (g .0 .0) (g .0 .1 .0) (g .0 .1 .1 .0) (g .0 .1 .1 .1 .0) (g .0 .1 .1 .1 .1 .0) (g .1))
 
 same-length-2 : tie.Need-same-length-2
 same-length-2 c = search needs
@@ -94,7 +94,7 @@ returns-2 c =
     let a = c .before .before .before .before .before .before .before .before .before .before .args in
     let g = c .before .before .before .before .before .before .before .step2 .given in
     let p = c .before .before .put-form2 in
-    put-same (a .write) (a .buffer .now) (a .at) (p .result) (p .last .1 .0) (p .ensures) (rested (a .step) (g .0 .0) (g .0 .1 .0) (g .1))
+    put-same-3 (a .write) (a .buffer .now) (a .at) (p .result) (p .last .1 .0) (p .ensures) (rested (a .step) (g .0 .0) (g .0 .1 .0) (g .1))
 
 same-length-3 : tie.Need-same-length-3
 same-length-3 c = search needs

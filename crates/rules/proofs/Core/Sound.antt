@@ -1,12 +1,12 @@
 -- What holds of the core at every place of a run (`Sound`), and how the words of demand 3 read it
 -- off the calls and answers (`Told`). Statements only: the proofs stand in files of their own.
-use Prim.Native.Nat.{ℕ, _+_, _*_, _≤_, _<_}
+use Prim.Native.Nat.{ℕ, _+_, _≤_, _<_}
 use mathlib.Core.Path.{_≡_}
-use mathlib.Core.List.{List, [], _∷_}
+use mathlib.Core.List.{List, []}
 use lib.ListN.{length}
 use Rattle.rules.specs.Plan.{Plan, shortest, longest}
-use Rattle.rules.specs.Call.{Class, normal, high}
-use Rattle.rules.specs.Core.{Core, Request, none, standing, Line, resting, busy, frameOf}
+use Rattle.rules.specs.Call.{Class, high}
+use Rattle.rules.specs.Core.{Core, standing, busy, frameOf}
 use Rattle.rules.specs.Drawn.{Within}
 use Rattle.rules.specs.Rows.{loads}
 use Rattle.rules.specs.Run.{Entry}

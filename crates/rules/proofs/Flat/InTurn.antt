@@ -1,15 +1,14 @@
 -- The flat rule's choice: the first counting node from the pointer on, or, where there is none, the first one of all.
-use Prim.Native.Nat.{ℕ, zero, suc, _+_, _-_, _≤_, _<_}
-use mathlib.Core.Path.{_≡_, refl, sym, ap, _∙_, subst}
+use Prim.Native.Nat.{ℕ, _+_, _-_, _≤_, _<_}
+use mathlib.Core.Path.{_≡_}
 use mathlib.Core.Bool.{Bool, true, false}
 use native.Mathlib.Omega.{arith}
 use lib.Dec.{eqb, ltb}
 use borrow.Author.Tests.{eq-eqb, ne-eqb, ltb-true, ltb-false}
 use Rattle.rules.specs.Choice.{if_then_else_, any, first}
 use Rattle.rules.specs.Plan.{Plan}
-use Rattle.rules.specs.Drawn.{Within}
 use Rattle.rules.specs.Flat.{inTurn}
-use Rattle.rules.proofs.Laws.Passes.{Found, missing, lowest, first-found, Some, any-some, true-false, Which, which, yes′, no′}
+use Rattle.rules.proofs.Laws.Passes.{Found, missing, lowest, first-found, any-some, true-false, Which, which, yes′, no′}
 
 -- k is the choice from the pointer a among nodes 1 to n
 pub data Chosen (f : ℕ → Bool) (n a k : ℕ) : Type 0 where
