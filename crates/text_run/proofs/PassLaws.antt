@@ -2,6 +2,7 @@
 use mathlib.Core.Path.{_≡_, refl, sym, ap, _∙_}
 use mathlib.Core.Bool.{Bool, true, false}
 use mathlib.Core.List.{List, [], _∷_}
+use mathlib.Core.Option.{some}
 use Prim.Native.Nat.{ℕ, suc, _-_, _≤_, _<_}
 use native.Mathlib.Omega.{arith}
 use lib.ListN.{length}
@@ -19,9 +20,12 @@ use Rattle.writer.specs.Write.{putAnswer, passBuffer}
 use Rattle.writer.specs.declared.Put.{Put}
 use Rattle.writer.specs.declared.Put.the-variants.{Behind, Short}
 use Rattle.log_lines.specs.FirstLine.{refusedLine}
-use Rattle.events.specs.Event.{eventOf, callOf}
-use Rattle.events.specs.declared.Event.{Event}
-use Rattle.log_spec.specs.Cells.{Run, line, goingOn, eventLineBy, nextBy, eventsBy}
+use Rattle.event.specs.Call.{callOf}
+use Rattle.event.specs.declared.Event.{Event}
+use Rattle.events.specs.Event.{eventOf, callOn}
+use Rattle.events.specs.declared.Said.{Said}
+use Rattle.events.specs.declared.Said.the-variants as said
+use Rattle.log_spec.specs.Cells.{Run, line, goingOn, numberBy, cellsBy, beforeBy, callBy, eventLineBy, nextBy, eventsBy}
 use Rattle.text_run.specs.declared.Went.{Went}
 use Rattle.text_run.specs.LinePass.{Ran, lineBy, wentBy}
 
@@ -43,12 +47,20 @@ module _ (write : Bool) (P : List ℕ) (number : ℕ) (s b : List ℕ) (z : ℕ)
   no-bytes (c ∷ k) h = absurd (omega arith)
 
   module _ (bytes : List ℕ) (ended : Bool) where
-    pub line-event : {e : Event} → ended ≡ true → e ≡ eventOf (part bytes 0 (length bytes)) → {r : Put} {s′ b′ : List ℕ} → Ran (eventLineBy write P number (callOf e) s b z) r s′ b′
-        → Ran (lineBy write P bytes number ended s b z) r s′ b′
-    unfolding lineBy
-    line-event {e} t q w =
-        let whole : e ≡ eventOf bytes = q ∙ ap eventOf (take-length bytes) in
-        rw (t, ← whole) w
+    -- what the line says
+    module _ {e : Said} (t : ended ≡ true) (q : e ≡ eventOf (part bytes 0 (length bytes))) where
+      whole : eventOf bytes ≡ e
+      whole = sym (q ∙ ap eventOf (take-length bytes))
+
+      pub line-event : (x : Event) → e ≡ said.Event x → {r : Put} {s′ b′ : List ℕ} → Ran (eventLineBy write P number (some (callOf x)) s b z) r s′ b′
+          → Ran (lineBy write P bytes number ended s b z) r s′ b′
+      unfolding lineBy
+      line-event x k w = rw (t, whole ∙ k) w
+
+      pub line-no-event : e ≡ said.NoEvent → {r : Put} {b′ : List ℕ} → r ≡ putAnswer b z (refusedLine number 1) → b′ ≡ passBuffer write b z (refusedLine number 1)
+          → Ran (lineBy write P bytes number ended s b z) r s b′
+      unfolding lineBy eventLineBy beforeBy callBy numberBy cellsBy
+      line-no-event k p w = rw (t, whole ∙ k) (p, (refl, w))
 
     pub line-none : ended ≡ false → length bytes ≡ 0 → Ran (lineBy write P bytes number ended s b z) (Behind z) s b
     line-none t q = rw (t, no-bytes bytes q) (refl, (refl, refl))
@@ -74,7 +86,7 @@ module _ (write : Bool) (P text : List ℕ) (at number left : ℕ) (s b : List �
   unfolding found lineBy
   by-case (Line start end n next) e =
       let l = scanned-line text c start end n next e in
-      λ i. goingOn (eventsBy write P text left next) (eventLineBy write P (l .numbered i) (callOf (eventOf (part text (l .begins i) end))) s b z)
+      λ i. goingOn (eventsBy write P text left next) (eventLineBy write P (l .numbered i) (callOn (eventOf (part text (l .begins i) end))) s b z)
   by-case (Unended start end n) e =
       let u = scanned-unended text c start end n e in
       ap (λ (m : ℕ). line write (refusedLine m 1) s b z) (u .numbered) ∙ sym (some-bytes write P number s b z (part text at end) (omega (arith, part-length text at end, u .begins, u .ends, u .more)))

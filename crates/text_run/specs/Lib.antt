@@ -1,3 +1,2 @@
 -- What the run's own functions cite besides `log_spec`.
-pub mod Times
 pub mod LinePass

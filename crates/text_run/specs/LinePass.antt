@@ -6,7 +6,7 @@ use mathlib.Core.List.{List, [], _∷_}
 use Rattle.writer.specs.declared.Put.{Put}
 use Rattle.writer.specs.declared.Put.the-variants.{Behind, Short}
 use Rattle.log_lines.specs.FirstLine.{refusedLine}
-use Rattle.events.specs.Event.{eventOf, callOf}
+use Rattle.events.specs.Event.{eventOf, callOn}
 use Rattle.log_spec.specs.Cells.{Run, line, eventLineBy}
 use Rattle.text_run.specs.declared.Went.{Went}
 
@@ -16,7 +16,7 @@ Ran x r s b = (r ≡ x .put) × ((s ≡ x .cells) × (b ≡ x .buffer))
 
 -- a line with its LF is an event's; bytes without one are refused by row 1; where there is neither, nothing is left
 unfoldable pub lineBy : Bool → List ℕ → List ℕ → ℕ → Bool → List ℕ → List ℕ → ℕ → Run
-lineBy write P bytes number true s buffer at = eventLineBy write P number (callOf (eventOf bytes)) s buffer at
+lineBy write P bytes number true s buffer at = eventLineBy write P number (callOn (eventOf bytes)) s buffer at
 lineBy write P [] number false s buffer at = record { put = Behind at; cells = s; buffer = buffer }
 lineBy write P (b ∷ bytes) number false s buffer at = line write (refusedLine number 1) s buffer at
 

@@ -1,17 +1,9 @@
--- `text_run::before` meets its contract: a line that is no event has no
--- steps, and an event those of the budget up to its time. Assumes nothing.
-use Rattle.text_run.proofs.EventLaws.{before-none, before-event}
+-- `text_run::before` meets its contract: the steps of the budget up to the event's time. Assumes nothing.
+use Rattle.event.specs.Call.{callOf}
+use Rattle.text_run.proofs.EventLaws.{before-event}
 use borrow.Author.Needs.{needs}
 use Rattle.text_run.proofs.before.Statement.{statement}
 use Rattle.text_run.proofs.before.Tie as tie
-
-enum-told : tie.Need-enum-told
-enum-told c = search needs
-
-returns : tie.Need-returns
-returns c =
-    let a = c .before .before .before .args in
-    before-none (a .write) (a .p .now) (a .e) (a .s .now) (a .buffer .now) (a .at) (c .enum-told .given .1)
 
 budget-requires : tie.Need-budget-requires
 budget-requires c κs = search needs
@@ -25,19 +17,12 @@ steps-requires c κs = search needs
 same-length : tie.Need-same-length
 same-length c = search needs
 
-returns-2 : tie.Need-returns-2
-returns-2 c =
-    let a = c .before .before .before .before .before .before .before .before .before .before .args in
-    before-event (a .write) (a .p .now) (a .e) (a .s .now) (a .buffer .now) (a .at) (c .before .before .before .before .before .before .before .before .match .keys2) (c .before .before .before .before .before .before .budget .ensures) (c .before .before .before .before .time-of .ensures) (c .before .before .steps .ensures)
+returns : tie.Need-returns
+returns c =
+    let a = c .before .before .before .before .before .before .before .before .before .args in
+    before-event (a .write) (a .p .now) (callOf (a .e)) (a .s .now) (a .buffer .now) (a .at) (c .before .before .before .before .before .before .budget .ensures) (c .before .before .before .before .time-of .ensures) (c .before .before .steps .ensures)
 
 pub before-spec : {M : Type 1} → statement M
 before-spec =
     tie.close
-    (tie.spec
-    enum-told
-    returns
-    budget-requires
-    time-of-requires
-    steps-requires
-    same-length
-    returns-2)
+    (tie.spec budget-requires time-of-requires steps-requires same-length returns)
