@@ -12,8 +12,8 @@ use Rattle.writer.specs.declared.Put.the-variants.{Behind, Short}
 use Rattle.log_lines.specs.FirstLine.{refusedLine}
 use Rattle.cells.specs.Calls.{EventPromise, rowBy}
 use Rattle.log_spec.specs.Cells.{numberBy, cellsBy, stepsBy, budgetBy, beforeBy, callBy, eventLineBy}
-use Rattle.text_run.specs.LinePass.{Ran}
-use Rattle.text_run.proofs.Ran.{onward, halted}
+use Rattle.line_run.specs.LineRun.{Ran}
+use Rattle.line_run.proofs.Ran.{onward, halted}
 
 module _ (write : Bool) (P : List ℕ) where
   -- the steps before an event

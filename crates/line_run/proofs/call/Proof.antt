@@ -1,9 +1,9 @@
--- `text_run::call` meets its contract: the event, and its line where it is refused. Assumes nothing.
+-- `line_run::call` meets its contract: the event, and its line where it is refused. Assumes nothing.
 use Rattle.event.specs.Call.{callOf}
-use Rattle.text_run.proofs.EventLaws.{call-taken, call-refused}
+use Rattle.line_run.proofs.EventLaws.{call-taken, call-refused}
 use borrow.Author.Needs.{needs}
-use Rattle.text_run.proofs.call.Statement.{statement}
-use Rattle.text_run.proofs.call.Tie as tie
+use Rattle.line_run.proofs.call.Statement.{statement}
+use Rattle.line_run.proofs.call.Tie as tie
 
 event-requires : tie.Need-event-requires
 event-requires c κs = search needs

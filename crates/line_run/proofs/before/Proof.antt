@@ -1,9 +1,9 @@
--- `text_run::before` meets its contract: the steps of the budget up to the event's time. Assumes nothing.
+-- `line_run::before` meets its contract: the steps of the budget up to the event's time. Assumes nothing.
 use Rattle.event.specs.Call.{callOf}
-use Rattle.text_run.proofs.EventLaws.{before-event}
+use Rattle.line_run.proofs.EventLaws.{before-event}
 use borrow.Author.Needs.{needs}
-use Rattle.text_run.proofs.before.Statement.{statement}
-use Rattle.text_run.proofs.before.Tie as tie
+use Rattle.line_run.proofs.before.Statement.{statement}
+use Rattle.line_run.proofs.before.Tie as tie
 
 budget-requires : tie.Need-budget-requires
 budget-requires c κs = search needs

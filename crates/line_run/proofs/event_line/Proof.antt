@@ -1,10 +1,10 @@
--- `text_run::event_line` meets its contract: the steps before the event, then the event. Assumes nothing.
+-- `line_run::event_line` meets its contract: the steps before the event, then the event. Assumes nothing.
 use Rattle.event.specs.Call.{callOf}
 use mathlib.Core.Option.{some}
-use Rattle.text_run.proofs.EventLaws.{line-on, line-short}
+use Rattle.line_run.proofs.EventLaws.{line-on, line-short}
 use borrow.Author.Needs.{needs}
-use Rattle.text_run.proofs.event_line.Statement.{statement}
-use Rattle.text_run.proofs.event_line.Tie as tie
+use Rattle.line_run.proofs.event_line.Statement.{statement}
+use Rattle.line_run.proofs.event_line.Tie as tie
 
 before-requires : tie.Need-before-requires
 before-requires c κs = search needs

@@ -1,8 +1,8 @@
--- `text_run::line_of` meets its contract, by the case. Assumes nothing.
+-- `line_run::line_of` meets its contract, by the case. Assumes nothing.
 use borrow.Author.Needs.{needs}
-use Rattle.text_run.proofs.PassLaws.{line-event, line-no-event, line-none, line-unended}
-use Rattle.text_run.proofs.line_of.Statement.{statement}
-use Rattle.text_run.proofs.line_of.Tie as tie
+use Rattle.line_run.proofs.LineLaws.{line-event, line-no-event, line-none, line-unended}
+use Rattle.line_run.proofs.line_of.Statement.{statement}
+use Rattle.line_run.proofs.line_of.Tie as tie
 
 event-at-requires : tie.Need-event-at-requires
 event-at-requires c κs = search needs
