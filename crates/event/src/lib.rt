@@ -1,4 +1,5 @@
-// One event as a value: the call that it is, and its time. Whoever has an event, from a text's line or a table's numbers, hands it on as this.
+// One event as a value: the call that it is, and its time.
+// A text's line and a table's five numbers both become this, and whoever makes events looks at nothing else.
 ghost use mathlib.Core.Path.{_≡_};
 ghost use Rattle.rules.specs.Call.{time};
 ghost use Rattle.event.specs.Call.{callOf};
