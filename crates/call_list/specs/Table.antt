@@ -11,8 +11,8 @@ use Rattle.cells.specs.Calls.{Performed, performBy, classNumbered}
 
 -- a call is kind, t, k, n and b: kind 1 is normal, 2 high, 3 off, 4 reserve, 5
 -- until, 6 step; a number that its kind doesn't have is not looked at
-abbrev pub callOf : ℕ → ℕ → ℕ → ℕ → ℕ → Call
-callOf kind t k n b =
+abbrev pub numbered : ℕ → ℕ → ℕ → ℕ → ℕ → Call
+numbered kind t k n b =
     if eqb kind 1 then ask normal t k b else
     (if eqb kind 2 then ask high t k b else
     (if eqb kind 3 then off t k else
@@ -21,7 +21,7 @@ callOf kind t k n b =
 
 -- call i of a table, from 0
 unfoldable pub callAt : List ℕ → ℕ → Call
-callAt cs i = callOf (getD cs (i * 5) 0) (getD cs (i * 5 + 1) 0) (getD cs (i * 5 + 2) 0) (getD cs (i * 5 + 3) 0) (getD cs (i * 5 + 4) 0)
+callAt cs i = numbered (getD cs (i * 5) 0) (getD cs (i * 5 + 1) 0) (getD cs (i * 5 + 2) 0) (getD cs (i * 5 + 3) 0) (getD cs (i * 5 + 4) 0)
 
 -- how many calls the table has
 abbrev pub countOf : List ℕ → ℕ

@@ -1,14 +1,16 @@
 // A list of calls as one call: a caller in another language crosses the border once for many.
 use cells::Cascade;
 use cells::Step;
+use event::Event;
 use plan::Plan;
 ghost use mathlib.Core.Path.{_≡_};
 ghost use Prim.Native.Nat.{_+_, _*_, _≤_};
 ghost use mathlib.Core.Bool.{true};
 ghost use lib.ListN.{length, getD};
 ghost use Rattle.rules.specs.Call.{step};
-ghost use Rattle.cells.specs.Calls.{EventPromise, performBy};
-ghost use Rattle.call_list.specs.Table.{callOf, callAt, countOf, isKind, kindsFrom, listNumber, sixOf, putSix};
+ghost use Rattle.event.specs.Call.{callOf};
+ghost use Rattle.cells.specs.Calls.{performBy};
+ghost use Rattle.call_list.specs.Table.{numbered, callAt, countOf, isKind, kindsFrom, listNumber, sixOf, putSix};
 ghost use Rattle.call_list.specs.Promise.{ListPromise};
 
 // An answer as it stands in a table.
@@ -84,24 +86,24 @@ fn of_number(n: u32) -> Six
     }
 }
 
-// An event, by its kind.
-fn event(p: &Plan, s: &mut Cascade, kind: u64, t: u64, k: u64, n: u64, b: u64) -> u32
+// The event that a call's five numbers are. A number that its kind doesn't have is not looked at.
+fn decoded(kind: u64, t: u64, k: u64, n: u64, b: u64) -> Event
     requires { ⌜ (1 ≤ kind) × (kind ≤ 5) ⌝ }
-    ensures { λ r. ⌜ EventPromise (now (p .entry)) (callOf kind t k n b) (now (s .entry)) r (now (s .exit)) ⌝ }
+    ensures { λ r. ⌜ callOf r ≡ numbered kind t k n b ⌝ }
 {
     if kind == 1 {
-        return hub::normal(p, s, t, k, b);
+        return Event::Normal { t, k, b };
     }
     if kind == 2 {
-        return hub::high(p, s, t, k, b);
+        return Event::High { t, k, b };
     }
     if kind == 3 {
-        return hub::off(p, s, t, k);
+        return Event::Off { t, k };
     }
     if kind == 4 {
-        return hub::reserve(p, s, t, k, n, b);
+        return Event::Reserve { t, k, n, b };
     }
-    hub::until(p, s, t)
+    Event::Until { t }
 }
 
 // A step, and its answer's numbers.
@@ -152,7 +154,7 @@ fn make(p: &Plan, s: &mut Cascade, calls: &[u64], i: usize) -> Six
     let k = calls[at + 2];
     let n = calls[at + 3];
     let b = calls[at + 4];
-    of_number(event(p, s, kind, t, k, n, b))
+    of_number(hub::event(p, s, decoded(kind, t, k, n, b)))
 }
 
 // The calls of the table, in order, with their answers into the other table: 0, or 1 or 18 and nothing is done.

@@ -3,12 +3,14 @@
 // that it leaves, for every content of both tables, by a definition of `cells`.
 use cells::Cascade;
 use cells::Step;
+use event::Event;
 use plan::Plan;
 ghost use mathlib.Core.Path.{_≡_};
 ghost use Prim.Native.Nat.{_≤_, _<_};
 ghost use lib.ListN.{set};
 ghost use Rattle.rules.specs.Call.{ask, off, reserve, until, normal, high};
 ghost use Rattle.rules.specs.Core.{standing};
+ghost use Rattle.event.specs.Call.{callOf};
 ghost use Rattle.cells.specs.Layout.{classOf, latestCell, requestCode};
 ghost use Rattle.cells.specs.Calls.{EventPromise, StepPromise};
 
@@ -108,4 +110,17 @@ pub fn step(p: &Plan, s: &mut Cascade, t: u64) -> Step
         return Step::Refused(11);
     }
     handling::step_due(p, s, instants::due(p, s), t)
+}
+
+// An event, whichever it is: 0, or the number of the row that refuses it, and then no cell changes.
+pub fn event(p: &Plan, s: &mut Cascade, e: Event) -> u32
+    ensures { λ r. ⌜ EventPromise (now (p .entry)) (callOf e) (now (s .entry)) r (now (s .exit)) ⌝ }
+{
+    match e {
+        Event::Normal { t, k, b } => ask(p, s, false, t, k, b),
+        Event::High { t, k, b } => ask(p, s, true, t, k, b),
+        Event::Off { t, k } => off(p, s, t, k),
+        Event::Reserve { t, k, n, b } => reserve(p, s, t, k, n, b),
+        Event::Until { t } => until(p, s, t),
+    }
 }

@@ -8,7 +8,7 @@ use native.Mathlib.Omega.{arith}
 use lib.Dec.{eqb}
 use lib.ListN.{length, drop, drop-of-length-le}
 use Rattle.rules.specs.Choice.{if_then_else_}
-use Rattle.rules.specs.Call.{Call, ask, off, reserve, until, normal, high, time, Answer}
+use Rattle.rules.specs.Call.{Call, time, Answer}
 use Rattle.rules.specs.Machine.{Hub, perform}
 use Rattle.rules.specs.Control.{Control, control}
 use Rattle.text.specs.Line.{Lines, nothing, unended, ended, lines, nextNumber, handOut, nextLine}
@@ -16,9 +16,12 @@ use Rattle.text.specs.declared.Cursor.{Cursor}
 use Rattle.writer.specs.declared.Put.the-variants.{Behind}
 use Rattle.plan.proofs.Reading.Agree.{First, first}
 use Rattle.log_lines.specs.FirstLine.{refusedLine}
-use Rattle.events.specs.declared.Event.{Event}
-use Rattle.events.specs.declared.Event.the-variants.{Normal, High, Off, Reserve, Until, NoEvent}
-use Rattle.events.specs.Event.{eventOf, callOf}
+use Rattle.event.specs.Call.{callOf}
+use Rattle.event.specs.declared.Event.{Event}
+use Rattle.event.specs.declared.Event.the-variants.{Normal, High, Off, Reserve, Until}
+use Rattle.events.specs.declared.Said.{Said}
+use Rattle.events.specs.declared.Said.the-variants as said
+use Rattle.events.specs.Event.{eventOf, callOn}
 use Rattle.cells.specs.Decode.{planIn}
 use Rattle.cells.specs.Calls.{eventAnswer, rowBy, eventBy, Performed, eventLeft, performBy}
 use Rattle.refinement.specs.Kept.{Ready}
@@ -65,15 +68,15 @@ module _ (write : Bool) (P : List ℕ) (R : Ready P) where
   unfolding eventLog eventLineBy beforeBy callBy numberBy cellsBy
   no-form-log number s h leads buffer at = writes-line write buffer at _ (refusedLine number 1) s leads
 
-  event-log : (number : ℕ) (e : Event) (s : List ℕ) (h : Hub Control) → Leads P s h → (buffer : List ℕ) (at : ℕ)
-      → Logs write P (eventLog (planIn P) number (callOf e) h) buffer at (eventLineBy write P number (callOf e) s buffer at)
+  event-log : (number : ℕ) (e : Said) (s : List ℕ) (h : Hub Control) → Leads P s h → (buffer : List ℕ) (at : ℕ)
+      → Logs write P (eventLog (planIn P) number (callOn e) h) buffer at (eventLineBy write P number (callOn e) s buffer at)
   unfolding performBy
-  event-log number (Normal t k b) = call-log number (ask normal t k b) (λ s. refl)
-  event-log number (High t k b) = call-log number (ask high t k b) (λ s. refl)
-  event-log number (Off t k) = call-log number (off t k) (λ s. refl)
-  event-log number (Reserve t k n b) = call-log number (reserve t k n b) (λ s. refl)
-  event-log number (Until t) = call-log number (until t) (λ s. refl)
-  event-log number NoEvent = no-form-log number
+  event-log number (said.Event (Normal t k b)) = call-log number (callOf (Normal t k b)) (λ s. refl)
+  event-log number (said.Event (High t k b)) = call-log number (callOf (High t k b)) (λ s. refl)
+  event-log number (said.Event (Off t k)) = call-log number (callOf (Off t k)) (λ s. refl)
+  event-log number (said.Event (Reserve t k n b)) = call-log number (callOf (Reserve t k n b)) (λ s. refl)
+  event-log number (said.Event (Until t)) = call-log number (callOf (Until t)) (λ s. refl)
+  event-log number said.NoEvent = no-form-log number
 
   -- the event lines of a text
   module _ (text : List ℕ) where
@@ -93,7 +96,7 @@ module _ (write : Bool) (P : List ℕ) (R : Ready P) where
           (nextBy write P text (eventsBy write P text left) (handOut c (ended l rest)) s buffer at)
       unfolding eventsLog handOut
       ended-log l rest f s h leads buffer at =
-          let call = callOf (eventOf l) in
+          let call = callOn (eventOf l) in
           let log = eventLog (planIn P) (c .number) call h in
           let next : Cursor = record { at = c .at + length l + 1; number = nextNumber (c .number) } in
           rw (f .bytes, ← (f .behind))

@@ -19,7 +19,7 @@ use Rattle.rules.proofs.Core.CallCases as course
 use Rattle.rules.proofs.Core.CallCases.{Course, refusal, quietly}
 use Rattle.text.specs.Line.{Lines, nothing, unended, ended, drawLines, nextNumber}
 use Rattle.log_lines.specs.FirstLine.{refusedLine}
-use Rattle.events.specs.Event.{eventOf, callOf}
+use Rattle.events.specs.Event.{eventOf, callOn}
 use Rattle.log_spec.specs.Log.{Logged, eventLine, budget, afterStep, steps, stepsBefore, eventLog, eventsLog}
 use Rattle.log_spec.proofs.LineLengths.{no-form-length, Long, call-long}
 use Rattle.log_spec.proofs.PutAside.{aside, grant-pays, rest-pays, event-pays}
@@ -123,9 +123,9 @@ module _ (p : Plan) (drawn : Drawn p) where
           left = refl;
         })
 
-    event-paid : Paid room (reached calls) (eventLog p number (callOf (eventOf l)) (reached calls))
+    event-paid : Paid room (reached calls) (eventLog p number (callOn (eventOf l)) (reached calls))
     unfolding eventLog flatten
-    event-paid = go (callOf (eventOf l)) (call-long l)
+    event-paid = go (callOn (eventOf l)) (call-long l)
       where
         go : (call : Option Call) → Long l call → Paid room (reached calls) (eventLog p number call (reached calls))
         go none h =
@@ -143,7 +143,7 @@ module _ (p : Plan) (drawn : Drawn p) where
   one-event-more l rest again number few calls =
       let n = length-append l (10 ∷ drawLines rest) in
       let m = event-paid number (omega arith) l calls in
-      let log = eventLog p number (callOf (eventOf l)) (reached calls) in
+      let log = eventLog p number (callOn (eventOf l)) (reached calls) in
       let more =
       subst (λ (h : Hub Control). bytes (eventsLog p (nextNumber number) h rest) ≤ aside p (h .core) + 18 * length (drawLines rest) + 18) (m .left)
       (again (nextNumber number) (omega arith) (m .calls)) in

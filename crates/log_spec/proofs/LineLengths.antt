@@ -15,8 +15,9 @@ use Rattle.text.proofs.Words.{starts-length}
 use Rattle.writer.specs.Write.{drawLine}
 use Rattle.log_lines.specs.FirstLine.{nodes-word, hubs-word, refused-word, nodesHead, nodesLine, refusedLine}
 use Rattle.log_lines.specs.Lines.{grant-word, rest-word, grantLine, restLine, classNumber}
-use Rattle.events.specs.declared.Event.{Event}
-use Rattle.events.specs.Event.{normal-word, high-word, off-word, reserve-word, until-word, orElse, formed, eventOf, callOf}
+use Rattle.event.specs.declared.Event.{Event}
+use Rattle.events.specs.declared.Said.{Said}
+use Rattle.events.specs.Event.{normal-word, high-word, off-word, reserve-word, until-word, orElse, formed, eventOf, callOn}
 
 -- each number with the space before it
 spaced : List ℕ → ℕ
@@ -92,26 +93,25 @@ Long l none = Unit {0}
 Long l (some call) = 4 ≤ length l
 
 module _ (l : List ℕ) where
-  form-long : (word : List ℕ) (count : ℕ) (event : ℕ → ℕ → ℕ → ℕ → Event) (otherwise : Event) → 4 ≤ length word
-      → (4 ≤ length l → (a b c d : ℕ) → Long l (callOf (event a b c d))) → Long l (callOf otherwise)
-      → Long l (callOf (orElse (formed word count l) event otherwise))
+  form-long : (word : List ℕ) (count : ℕ) (event : ℕ → ℕ → ℕ → ℕ → Event) (otherwise : Said) → 4 ≤ length word
+      → Long l (callOn otherwise) → Long l (callOn (orElse (formed word count l) event otherwise))
   unfolding readForm
-  form-long word count event otherwise w is other = go (startsWith word l) refl
+  form-long word count event otherwise w other = go (startsWith word l) refl
     where
-      by-numbers : 4 ≤ length l → (o : Option (List ℕ)) → Long l (callOf (orElse (formOf o) event otherwise))
+      by-numbers : 4 ≤ length l → (o : Option (List ℕ)) → Long l (callOn (orElse (formOf o) event otherwise))
       by-numbers h none = unfold formOf in other
-      by-numbers h (some ns) = unfold formOf in is h _ _ _ _
+      by-numbers h (some ns) = unfold formOf in h
 
-      go : (b : Bool) → startsWith word l ≡ b → Long l (callOf (orElse (formOf (readBehind b count (drop (length word) l))) event otherwise))
+      go : (b : Bool) → startsWith word l ≡ b → Long l (callOn (orElse (formOf (readBehind b count (drop (length word) l))) event otherwise))
       go true e = by-numbers (omega (arith, starts-length word l e)) (readBehind true count (drop (length word) l))
       go false e = unfold readBehind formOf in other
 
-  pub call-long : Long l (callOf (eventOf l))
+  pub call-long : Long l (callOn (eventOf l))
   unfolding eventOf
   call-long =
-      form-long normal-word 3 _ _ (omega arith) (λ h t k b x. h)
-      (form-long high-word 3 _ _ (omega arith) (λ h t k b x. h)
-      (form-long off-word 2 _ _ (omega arith) (λ h t k x y. h)
-      (form-long reserve-word 4 _ _ (omega arith) (λ h t k n b. h)
-      (form-long until-word 1 _ _ (omega arith) (λ h t x y z. h)
+      form-long normal-word 3 _ _ (omega arith)
+      (form-long high-word 3 _ _ (omega arith)
+      (form-long off-word 2 _ _ (omega arith)
+      (form-long reserve-word 4 _ _ (omega arith)
+      (form-long until-word 1 _ _ (omega arith)
       tt))))

@@ -21,7 +21,7 @@ use Rattle.plan.specs.declared.Answer.the-variants.{Taken, Refused}
 use Rattle.plan.specs.Reading.{reading, leaves}
 use Rattle.log_lines.specs.Handed.{handed}
 use Rattle.log_lines.specs.FirstLine.{firstLine, refusedLine}
-use Rattle.events.specs.Event.{eventOf, callOf}
+use Rattle.events.specs.Event.{eventOf, callOn}
 use Rattle.log_lines.specs.Lines.{stepLine}
 use Rattle.cells.specs.declared.Step.{Step}
 use Rattle.cells.specs.declared.Step.the-variants as stepped
@@ -108,7 +108,7 @@ module _ (write : Bool) (P : List ℕ) where
   -- the event lines from a cursor on; `left` is at least as many as there are
   abbrev pub nextBy : List ℕ → (Cursor → List ℕ → List ℕ → ℕ → Run) → Next → List ℕ → List ℕ → ℕ → Run
   nextBy text again (Line start end number next) s buffer at =
-      goingOn (again next) (eventLineBy number (callOf (eventOf (part text start end))) s buffer at)
+      goingOn (again next) (eventLineBy number (callOn (eventOf (part text start end))) s buffer at)
   nextBy text again (Unended start end number) s buffer at = line write (refusedLine number 1) s buffer at
   nextBy text again (Done number) s buffer at = record { put = Behind at; cells = s; buffer = buffer }
 

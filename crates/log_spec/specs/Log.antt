@@ -19,7 +19,7 @@ use Rattle.plan.specs.Tables.{planOf}
 use Rattle.plan.specs.Reading.{reading}
 use Rattle.log_lines.specs.Handed.{handed}
 use Rattle.log_lines.specs.FirstLine.{nodesLine, refusedLine}
-use Rattle.events.specs.Event.{eventOf, callOf}
+use Rattle.events.specs.Event.{eventOf, callOn}
 use Rattle.log_lines.specs.Lines.{answerLine}
 
 -- the lines written so far, each with its LF, and the hub that is left
@@ -85,7 +85,7 @@ module _ (p : Plan) where
   eventsLog number h nothing = []
   eventsLog number h (unended l) = refusedLine number 1 ∷ []
   eventsLog number h (ended l more) =
-      let first = eventLog number (callOf (eventOf l)) h in
+      let first = eventLog number (callOn (eventOf l)) h in
       first .written ++ eventsLog (nextNumber number) (first .hub) more
 
 -- behind the plan

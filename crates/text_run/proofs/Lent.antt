@@ -40,7 +40,8 @@ use Rattle.reader.proofs.Line.Laws as N′
 use Rattle.reader.proofs.Holding as has
 use Rattle.log_spec.specs.Cells.{Run}
 use Rattle.text_run.specs.declared.Went.{Went}
-use Rattle.text_run.specs.LinePass.{lineBy, Passed}
+use Rattle.line_run.specs.LineRun.{lineBy}
+use Rattle.text_run.specs.LinePass.{Passed}
 use Rattle.text_run.proofs.Again as again
 use Rattle.text_run.proofs.Went as G
 use Rattle.text_run.proofs.proceed as proceed

@@ -1,7 +1,4 @@
 -- The laws that the functions' proofs cite. Again and Lent serve the walk of `events`.
-mod Ran
-mod StepLaws
-mod EventLaws
 mod WholeLaws
 mod TwoPasses
 mod PassLaws

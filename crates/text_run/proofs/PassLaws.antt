@@ -1,11 +1,10 @@
 -- The run from a reader's place on, by the line that the reader hands out there.
 use mathlib.Core.Path.{_≡_, refl, sym, ap, _∙_}
 use mathlib.Core.Bool.{Bool, true, false}
-use mathlib.Core.List.{List, [], _∷_}
+use mathlib.Core.List.{List}
 use Prim.Native.Nat.{ℕ, suc, _-_, _≤_, _<_}
 use native.Mathlib.Omega.{arith}
 use lib.ListN.{length}
-use lib.Seq.{take-length}
 use Rattle.text.specs.Part.{part}
 use Rattle.text.specs.Line.{nextLine}
 use Rattle.text.specs.declared.Cursor.{Cursor}
@@ -15,49 +14,20 @@ use Rattle.text.proofs.Parts.{part-length}
 use Rattle.text.proofs.Lines.{scanned-line, scanned-unended}
 use Rattle.reader.specs.declared.Found.{Found}
 use Rattle.reader.specs.LineReader.{found, foundAt}
-use Rattle.writer.specs.Write.{putAnswer, passBuffer}
 use Rattle.writer.specs.declared.Put.{Put}
 use Rattle.writer.specs.declared.Put.the-variants.{Behind, Short}
 use Rattle.log_lines.specs.FirstLine.{refusedLine}
-use Rattle.events.specs.Event.{eventOf, callOf}
-use Rattle.events.specs.declared.Event.{Event}
+use Rattle.events.specs.Event.{eventOf, callOn}
 use Rattle.log_spec.specs.Cells.{Run, line, goingOn, eventLineBy, nextBy, eventsBy}
 use Rattle.text_run.specs.declared.Went.{Went}
-use Rattle.text_run.specs.LinePass.{Ran, lineBy, wentBy}
+use Rattle.line_run.specs.LineRun.{Ran, lineBy}
+use Rattle.line_run.proofs.LineLaws.{some-bytes, no-bytes}
+use Rattle.text_run.specs.LinePass.{wentBy}
 
 -- behind a line with its LF the run goes on
 abbrev pub behindLine : Bool → (List ℕ → List ℕ → ℕ → Run) → Run → Run
 behindLine true more x = goingOn more x
 behindLine false more x = x
-
--- a line by whether its LF was there, and its bytes
-module _ (write : Bool) (P : List ℕ) (number : ℕ) (s b : List ℕ) (z : ℕ) where
-  some-bytes : (k : List ℕ) → 0 < length k → lineBy write P k number false s b z ≡ line write (refusedLine number 1) s b z
-  unfolding lineBy
-  some-bytes [] h = absurd (omega arith)
-  some-bytes (c ∷ k) h = refl
-
-  no-bytes : (k : List ℕ) → length k ≡ 0 → lineBy write P k number false s b z ≡ record { put = Behind z; cells = s; buffer = b }
-  unfolding lineBy
-  no-bytes [] h = refl
-  no-bytes (c ∷ k) h = absurd (omega arith)
-
-  module _ (bytes : List ℕ) (ended : Bool) where
-    pub line-event : {e : Event} → ended ≡ true → e ≡ eventOf (part bytes 0 (length bytes)) → {r : Put} {s′ b′ : List ℕ} → Ran (eventLineBy write P number (callOf e) s b z) r s′ b′
-        → Ran (lineBy write P bytes number ended s b z) r s′ b′
-    unfolding lineBy
-    line-event {e} t q w =
-        let whole : e ≡ eventOf bytes = q ∙ ap eventOf (take-length bytes) in
-        rw (t, ← whole) w
-
-    pub line-none : ended ≡ false → length bytes ≡ 0 → Ran (lineBy write P bytes number ended s b z) (Behind z) s b
-    line-none t q = rw (t, no-bytes bytes q) (refl, (refl, refl))
-
-    pub line-unended : ended ≡ false → (length bytes ≡ 0 → ⊥) → {r : Put} {b′ : List ℕ} → r ≡ putAnswer b z (refusedLine number 1) → b′ ≡ passBuffer write b z (refusedLine number 1)
-        → Ran (lineBy write P bytes number ended s b z) r s b′
-    line-unended t q p w =
-        let n : 0 < length bytes = omega arith in
-        rw (t, some-bytes bytes n) (p, (refl, w))
 
 module _ (write : Bool) (P text : List ℕ) (at number left : ℕ) (s b : List ℕ) (z : ℕ) where
   abbrev c : Cursor
@@ -74,7 +44,7 @@ module _ (write : Bool) (P text : List ℕ) (at number left : ℕ) (s b : List �
   unfolding found lineBy
   by-case (Line start end n next) e =
       let l = scanned-line text c start end n next e in
-      λ i. goingOn (eventsBy write P text left next) (eventLineBy write P (l .numbered i) (callOf (eventOf (part text (l .begins i) end))) s b z)
+      λ i. goingOn (eventsBy write P text left next) (eventLineBy write P (l .numbered i) (callOn (eventOf (part text (l .begins i) end))) s b z)
   by-case (Unended start end n) e =
       let u = scanned-unended text c start end n e in
       ap (λ (m : ℕ). line write (refusedLine m 1) s b z) (u .numbered) ∙ sym (some-bytes write P number s b z (part text at end) (omega (arith, part-length text at end, u .begins, u .ends, u .more)))

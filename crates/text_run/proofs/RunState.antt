@@ -12,8 +12,9 @@ use Rattle.reader.specs.LineReader.{foundAt}
 use Rattle.reader.specs.declared.Found.{Found}
 use Rattle.log_spec.specs.Cells.{Run, eventsBy}
 use Rattle.text_run.specs.declared.Went.{Went}
-use Rattle.text_run.specs.LinePass.{Ran, lineBy, Passed}
-use Rattle.text_run.proofs.Ran.{ran-same}
+use Rattle.line_run.specs.LineRun.{Ran, lineBy}
+use Rattle.text_run.specs.LinePass.{Passed}
+use Rattle.line_run.proofs.Ran.{ran-same}
 use Rattle.text_run.proofs.PassLaws.{behindLine, passed, fewer, over, onward}
 
 -- what a run starts from: the text, the plan's tables, the first event line,

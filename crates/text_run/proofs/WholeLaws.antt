@@ -14,8 +14,8 @@ use Rattle.log_lines.specs.Handed.{handed}
 use Rattle.log_lines.specs.FirstLine.{firstLine}
 use Rattle.cells.specs.Fresh.{freshCells}
 use Rattle.log_spec.specs.Cells.{line, goingOn, eventsBy, behindPlan, passBy}
-use Rattle.text_run.specs.LinePass.{Ran}
-use Rattle.text_run.proofs.Ran.{ran-same, onward, halted}
+use Rattle.line_run.specs.LineRun.{Ran}
+use Rattle.line_run.proofs.Ran.{ran-same, onward, halted}
 
 module _ (write : Bool) (text : List ℕ) (answer : Answer) (P s b : List ℕ) (at : ℕ) where
   pub plan-refused : (l n : ℕ) → answer ≡ Refused l n → Ran (behindPlan write text answer P s b at) (Behind at) s b

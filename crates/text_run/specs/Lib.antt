@@ -1,3 +1,2 @@
--- What the run's own functions cite besides `log_spec`.
-pub mod Times
+-- What the run's own functions cite besides `log_spec` and `line_run`.
 pub mod LinePass

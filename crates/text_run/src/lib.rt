@@ -1,22 +1,17 @@
 // The run over one text: the plan is read, then each event behind all steps strictly before it, and the log is written into a lent buffer,
 // all of it or nothing. `run` has no `requires`: what it writes is one definition of the whole log of a text, `log_spec`'s specs/Log.antt.
 use cells::Cascade;
-use cells::Step;
-use events::Event;
 use plan::Answer;
 use plan::Plan;
 use writer::Put;
 ghost use mathlib.Core.Path.{_≡_};
-ghost use Prim.Native.Nat.{suc, _+_, _*_};
-ghost use lib.Dec.{eqb};
-ghost use Rattle.rules.specs.Choice.{if_then_else_};
+ghost use Prim.Native.Nat.{suc};
 ghost use lib.ListN.{length};
 ghost use Rattle.plan.specs.Reading.{reading, leaves};
-ghost use Rattle.events.specs.Event.{callOf};
 ghost use Rattle.log_lines.specs.Handed.{handed};
-ghost use Rattle.log_spec.specs.Cells.{more, stepsBy, numberBy, cellsBy, budgetBy, beforeBy, callBy, eventLineBy, eventsBy, behindPlan, passBy, planLeft, cellsLeft};
-ghost use Rattle.text_run.specs.Times.{timeOf};
-ghost use Rattle.text_run.specs.LinePass.{Ran, lineBy, wentBy, Passed};
+ghost use Rattle.log_spec.specs.Cells.{eventsBy, behindPlan, passBy, planLeft, cellsLeft};
+ghost use Rattle.line_run.specs.LineRun.{Ran, lineBy};
+ghost use Rattle.text_run.specs.LinePass.{wentBy, Passed};
 ghost use Rattle.log_spec.specs.Log.{logBytes};
 ghost use Rattle.writer.specs.Write.{fits, putAnswer, putBuffer};
 
@@ -25,179 +20,6 @@ pub struct Went {
     pub put: Put,
     pub at: usize,
     pub more: bool,
-}
-
-// Whether more steps may follow a step's answer.
-fn goes_on(a: Step) -> bool
-    ensures { λ r. ⌜ r ≡ more a ⌝ }
-{
-    match a {
-        Step::Grant {
-            time: _,
-            node: _,
-            class: _,
-            end: _,
-            moves: _,
-        } => true,
-        Step::Rest { time: _, moves: _ } => true,
-        Step::Quiet => false,
-        Step::Refused(_) => false,
-    }
-}
-
-// At most `left` steps with bound t, each with its line; `write` says whether lines are written or only measured.
-fn steps(
-    p: &Plan,
-    s: &mut Cascade,
-    left: u64,
-    t: u64,
-    write: bool,
-    buffer: &mut [u8],
-    at: usize,
-) -> Put
-    ensures { λ r. ⌜ r ≡ stepsBy write (now (p .entry)) left t (now (s .entry)) (now (buffer .entry)) at .put ⌝ }
-    ensures { λ r. ⌜ now (s .exit) ≡ stepsBy write (now (p .entry)) left t (now (s .entry)) (now (buffer .entry)) at .cells ⌝ }
-    ensures { λ r. ⌜ now (buffer .exit) ≡ stepsBy write (now (p .entry)) left t (now (s .entry)) (now (buffer .entry)) at .buffer ⌝ }
-{
-    if left == 0 {
-        return Put::Behind(at);
-    }
-    let a = hub::step(p, s, t);
-    if !goes_on(a) {
-        return Put::Behind(at);
-    }
-    match log_lines::step_line(a, write, buffer, at) {
-        Put::Behind(z) => steps(p, s, left - 1, t, write, buffer, z),
-        Put::Short => Put::Short,
-    }
-}
-
-// The event: its number, 1 where the line is none.
-fn make(p: &Plan, s: &mut Cascade, e: Event) -> u32
-    ensures { λ r. ⌜ r ≡ numberBy (now (p .entry)) (callOf e) (now (s .entry)) ⌝ }
-    ensures { λ r. ⌜ now (s .exit) ≡ cellsBy (now (p .entry)) (callOf e) (now (s .entry)) ⌝ }
-{
-    match e {
-        Event::Normal { t, k, b } => hub::normal(p, s, t, k, b),
-        Event::High { t, k, b } => hub::high(p, s, t, k, b),
-        Event::Off { t, k } => hub::off(p, s, t, k),
-        Event::Reserve { t, k, n, b } => hub::reserve(p, s, t, k, n, b),
-        Event::Until { t } => hub::until(p, s, t),
-        Event::NoEvent => 1,
-    }
-}
-
-// Twice a number of requests, and one more while a line is busy.
-fn twice(busy: u32, standing: u32) -> u64
-    ensures { λ r. ⌜ r ≡ 2 * standing + (if eqb busy 0 then 0 else 1) ⌝ }
-{
-    if busy == 0 {
-        return 2 * standing as u64;
-    }
-    2 * standing as u64 + 1
-}
-
-// How many steps can come before the next event.
-fn budget(s: &Cascade) -> u64
-    ensures { λ r. ⌜ r ≡ budgetBy (now (s .entry)) ⌝ }
-{
-    twice(s[4], s[7])
-}
-
-// An event's time; a line that is none has 0.
-fn time_of(e: Event) -> u64
-    ensures { λ r. ⌜ r ≡ timeOf (callOf e) ⌝ }
-{
-    match e {
-        Event::Normal { t, k: _, b: _ } => t,
-        Event::High { t, k: _, b: _ } => t,
-        Event::Off { t, k: _ } => t,
-        Event::Reserve {
-            t,
-            k: _,
-            n: _,
-            b: _,
-        } => t,
-        Event::Until { t } => t,
-        Event::NoEvent => 0,
-    }
-}
-
-// All steps before an event.
-fn before(p: &Plan, s: &mut Cascade, e: Event, write: bool, buffer: &mut [u8], at: usize) -> Put
-    ensures { λ r. ⌜ r ≡ beforeBy write (now (p .entry)) (callOf e) (now (s .entry)) (now (buffer .entry)) at .put ⌝ }
-    ensures { λ r. ⌜ now (s .exit) ≡ beforeBy write (now (p .entry)) (callOf e) (now (s .entry)) (now (buffer .entry)) at .cells ⌝ }
-    ensures { λ r. ⌜ now (buffer .exit) ≡ beforeBy write (now (p .entry)) (callOf e) (now (s .entry)) (now (buffer .entry)) at .buffer ⌝ }
-{
-    if let Event::NoEvent = e {
-        return Put::Behind(at);
-    }
-    let left = budget(s);
-    steps(p, s, left, time_of(e), write, buffer, at)
-}
-
-// The event, with its line where it is refused.
-fn call(
-    p: &Plan,
-    s: &mut Cascade,
-    number: usize,
-    e: Event,
-    write: bool,
-    buffer: &mut [u8],
-    at: usize,
-) -> Put
-    ensures { λ r. ⌜ r ≡ callBy write (now (p .entry)) number (callOf e) (now (s .entry)) (now (buffer .entry)) at .put ⌝ }
-    ensures { λ r. ⌜ now (s .exit) ≡ callBy write (now (p .entry)) number (callOf e) (now (s .entry)) (now (buffer .entry)) at .cells ⌝ }
-    ensures { λ r. ⌜ now (buffer .exit) ≡ callBy write (now (p .entry)) number (callOf e) (now (s .entry)) (now (buffer .entry)) at .buffer ⌝ }
-{
-    let row = make(p, s, e);
-    if row == 0 {
-        return Put::Behind(at);
-    }
-    log_lines::refused_line(number as u64, row, write, buffer, at)
-}
-
-// One event line.
-fn event_line(
-    p: &Plan,
-    s: &mut Cascade,
-    number: usize,
-    e: Event,
-    write: bool,
-    buffer: &mut [u8],
-    at: usize,
-) -> Put
-    ensures { λ r. ⌜ r ≡ eventLineBy write (now (p .entry)) number (callOf e) (now (s .entry)) (now (buffer .entry)) at .put ⌝ }
-    ensures { λ r. ⌜ now (s .exit) ≡ eventLineBy write (now (p .entry)) number (callOf e) (now (s .entry)) (now (buffer .entry)) at .cells ⌝ }
-    ensures { λ r. ⌜ now (buffer .exit) ≡ eventLineBy write (now (p .entry)) number (callOf e) (now (s .entry)) (now (buffer .entry)) at .buffer ⌝ }
-{
-    match before(p, s, e, write, buffer, at) {
-        Put::Behind(z) => call(p, s, number, e, write, buffer, z),
-        Put::Short => Put::Short,
-    }
-}
-
-// One line that the reader handed out: an event's, the last one, whose LF is missing, or nothing is left.
-fn line_of(
-    p: &Plan,
-    s: &mut Cascade,
-    bytes: &[u8],
-    number: usize,
-    ended: bool,
-    write: bool,
-    buffer: &mut [u8],
-    at: usize,
-) -> Put
-    ensures { λ r. ⌜ Ran (lineBy write (now (p .entry)) (now (bytes .entry)) number ended (now (s .entry)) (now (buffer .entry)) at) r (now (s .exit)) (now (buffer .exit)) ⌝ }
-{
-    if ended {
-        let e = events::event_at(bytes, 0, bytes.len());
-        return event_line(p, s, number, e, write, buffer, at);
-    }
-    if bytes.len() == 0 {
-        return Put::Behind(at);
-    }
-    log_lines::refused_line(number as u64, 1, write, buffer, at)
 }
 
 // How the run goes on behind a line: the place for the next, and whether there may be one.
@@ -231,7 +53,7 @@ fn proceed(
 ) -> Went
     ensures { λ r. ⌜ Passed ended (lineBy write (now (p .entry)) (now (bytes .entry)) number ended (now (s .entry)) (now (buffer .entry)) at) r (now (s .exit)) (now (buffer .exit)) ⌝ }
 {
-    let put = line_of(p, s, bytes, number, ended, write, buffer, at);
+    let put = line_run::line_of(p, s, bytes, number, ended, write, buffer, at);
     behind_line(ended, put)
 }
 
@@ -312,8 +134,8 @@ fn log_fits(text: &[u8], buffer: &mut [u8]) -> bool
     if 1179648 <= buffer.len() {
         return true;
     }
-    let mut plan = [0u32; 1672];
-    let mut s = [0u32; 1160];
+    let mut plan = [0u32; plan::CELLS];
+    let mut s = [0u32; cells::CELLS];
     match pass(text, &mut plan, &mut s, false, buffer) {
         Put::Behind(_) => true,
         Put::Short => false,

@@ -63,10 +63,13 @@ mul-b c = search needs
 shared-slice-read-b : tie.Need-shared-slice-read-b
 shared-slice-read-b c = search needs
 
-event-requires : tie.Need-event-requires
-event-requires c κs =
+decoded-requires : tie.Need-decoded-requires
+decoded-requires c κs =
     let b = c .before .before .before .before .before .before .before .before in
     event-kind (getD (b .args .calls .now) (b .args .i * 5) 0) (b .pre .1) (c .before .before .before .before .if1 .left)
+
+event-requires : tie.Need-event-requires
+event-requires c κs = search needs
 
 of-number-requires : tie.Need-of-number-requires
 of-number-requires c κs = search needs
@@ -74,10 +77,9 @@ of-number-requires c κs = search needs
 returns-2 : tie.Need-returns-2
 unfolding callAt
 returns-2 c =
-    let b = c .before .before .before .before .before .before .before .before .before .before in
-    let a = b .args in
+    let a = c .before .before .before .before .before .before .before .before .before .before .before .args in
     let w =
-    event-made (a .p .now) (a .calls .now) (a .s .now) (a .i) (b .pre .1) (c .before .before .before .before .before .before .if1 .left)
+    event-made (a .p .now) (a .calls .now) (a .s .now) (a .i) (c .before .before .decoded .result) (c .before .before .decoded .ensures)
     (c .before .event .result) (c .before .event .last .1 .0) (c .before .event .ensures) in
     (w .0 ∙ ap six-of (sym (c .of-number .ensures)), w .1)
 
@@ -102,6 +104,7 @@ make-spec =
     add-b
     mul-b
     shared-slice-read-b
+    decoded-requires
     event-requires
     of-number-requires
     returns-2)

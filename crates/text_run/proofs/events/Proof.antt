@@ -64,7 +64,8 @@ use Rattle.writer.specs.declared.Put.{Put}
 use Rattle.writer.proofs.Put as Y
 use Rattle.writer.proofs.Put.Laws as Y′
 use Rattle.text_run.specs.declared.Went.{Went}
-use Rattle.text_run.specs.LinePass.{Ran, lineBy, Passed}
+use Rattle.line_run.specs.LineRun.{Ran, lineBy}
+use Rattle.text_run.specs.LinePass.{Passed}
 use Rattle.text_run.proofs.RunState.{Origin, whole-run, State, Nearer, Nearer-wf, start, ahead-of, ran, ends, goes}
 use Rattle.text_run.proofs.Lent as held
 use Rattle.text_run.proofs.Went as G

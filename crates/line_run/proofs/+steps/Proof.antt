@@ -1,20 +1,20 @@
--- `text_run::steps` meets its contract, and ends since `left` falls. Assumes nothing.
+-- `line_run::steps` meets its contract, and ends since `left` falls. Assumes nothing.
 use mathlib.Core.Path.{sym, _∙_}
 use native.Mathlib.Omega.{arith}
 use borrow.Author.Needs.{needs}
 use borrow.Author.Tests.{not-true, not-false}
-use Rattle.text_run.proofs.StepLaws.{no-steps, last-step, more-steps, no-room}
+use Rattle.line_run.proofs.StepLaws.{no-steps, last-step, more-steps, no-room}
 use Prim.Native.Nat.{ℕ, _<_}
 use borrow.Fn.Kinds.{In}
 use borrow.Fn.PlainCycle.{Measures, is, falls, and}
-use Rattle.text_run.proofs.steps.Reads as steps
-use Rattle.text_run.proofs.steps.Kinds as steps-kinds
-use Rattle.text_run.proofs.+steps.Lts-steps as steps-lts
+use Rattle.line_run.proofs.steps.Reads as steps
+use Rattle.line_run.proofs.steps.Kinds as steps-kinds
+use Rattle.line_run.proofs.+steps.Lts-steps as steps-lts
 use Rattle.hub.proofs.step.Reads as step-reads
 use Rattle.log_lines.proofs.step_line.Reads as step-line-reads
-use Rattle.text_run.proofs.goes_on.Reads as goes-on-reads
-use Rattle.text_run.proofs.+steps.{statement}
-use Rattle.text_run.proofs.+steps.Tie.{close}
+use Rattle.line_run.proofs.goes_on.Reads as goes-on-reads
+use Rattle.line_run.proofs.+steps.{statement}
+use Rattle.line_run.proofs.+steps.Tie.{close}
 
 abbrev μ-steps : Measures 3 steps-kinds.ps ℕ
 μ-steps κs a = a .1 .1 .0

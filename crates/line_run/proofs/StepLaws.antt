@@ -12,8 +12,8 @@ use Rattle.log_lines.specs.Lines.{stepLine}
 use Rattle.cells.specs.declared.Step.{Step}
 use Rattle.cells.specs.Calls.{StepPromise}
 use Rattle.log_spec.specs.Cells.{Run, line, goingOn, more, stepsBy}
-use Rattle.text_run.specs.LinePass.{Ran}
-use Rattle.text_run.proofs.Ran.{ran-same, onward, halted}
+use Rattle.line_run.specs.LineRun.{Ran}
+use Rattle.line_run.proofs.Ran.{ran-same, onward, halted}
 
 module _ (write : Bool) (P : List ℕ) (left t : ℕ) (s b : List ℕ) (at : ℕ) where
   pub no-steps : left ≡ 0 → Ran (stepsBy write P left t s b at) (Behind at) s b

@@ -5,7 +5,7 @@ use mathlib.Core.List.{List}
 use Rattle.writer.specs.declared.Put.{Put}
 use Rattle.writer.specs.declared.Put.the-variants.{Behind, Short}
 use Rattle.log_spec.specs.Cells.{Run, goingOn}
-use Rattle.text_run.specs.LinePass.{Ran}
+use Rattle.line_run.specs.LineRun.{Ran}
 
 pub ran-same : {x y : Run} {r : Put} {s b : List ℕ} → x ≡ y → Ran y r s b → Ran x r s b
 ran-same {x} {y} {r} {s} {b} e w = rw e w

@@ -1,9 +1,9 @@
--- `text_run::twice` meets its contract. Assumes nothing.
+-- `line_run::twice` meets its contract. Assumes nothing.
 use native.Mathlib.Omega.{arith}
 use borrow.Author.Tests.{eq-eqb, ne-eqb}
 use borrow.Author.Needs.{needs}
-use Rattle.text_run.proofs.twice.Statement.{statement}
-use Rattle.text_run.proofs.twice.Tie as tie
+use Rattle.line_run.proofs.twice.Statement.{statement}
+use Rattle.line_run.proofs.twice.Tie as tie
 
 mul-result : tie.Need-mul-result
 mul-result c = search needs

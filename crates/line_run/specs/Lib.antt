@@ -1,0 +1,2 @@
+-- What `line_of` cites besides `log_spec`.
+pub mod LineRun
