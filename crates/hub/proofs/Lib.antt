@@ -1,5 +1,3 @@
--- Laws that serve the proofs of the functions: of the first row that applies,
--- of a call's rows and of what an event leaves, and of reservations in cells.
-pub mod FirstRow
+-- Laws that serve the proofs of the functions: of what a call leaves, and of a request's cell.
 pub mod CallLaws
-pub mod Shares
+pub mod RequestBits

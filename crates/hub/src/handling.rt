@@ -1,5 +1,4 @@
 // The step: the due instant is handled by a grant or a rest.
-use crate::instants;
 use cells::Cascade;
 use cells::Due;
 use cells::Sought;
@@ -10,7 +9,8 @@ ghost use mathlib.Core.Path.{_≡_};
 ghost use Prim.Native.Nat.{_+_, _≤_};
 ghost use Rattle.rules.specs.Rows.{last-time};
 ghost use Rattle.cells.specs.Calls.{bitsAt, classNumber, grantBy, restBy, handledBy, stepDue};
-ghost use Rattle.cells.specs.Instants.{soughtBy};
+ghost use Rattle.cells.specs.Decode.{planIn};
+ghost use Rattle.cells.specs.Instants.{soughtBy, dueBy};
 
 // The length of node k's request; a number that is no node has none.
 fn bits_at(s: &Cascade, k: u32) -> u32
@@ -22,7 +22,7 @@ fn bits_at(s: &Cascade, k: u32) -> u32
     if 256 < k {
         return 0;
     }
-    let x = s[136 + (k as usize - 1) * 4];
+    let x = s[cells::NODES + (k as usize - 1) * cells::PER_NODE + cells::REQUEST];
     if x < 65536 {
         return 0;
     }
@@ -53,7 +53,7 @@ fn grant_turn(p: &Plan, s: &mut Cascade, d: u64, high: bool, t: Turn) -> Step
     ensures { λ r. ⌜ now (s .exit) ≡ grantBy (now (p .entry)) d high (record { turn = t; cells = now (s .entry) }) .cells ⌝ }
 {
     let node = t.node;
-    let end = end_of(d, bits_at(s, node), p[1]);
+    let end = end_of(d, bits_at(s, node), p[plan::OVERHEAD]);
     requests::grant_node(p, s, high, node);
     requests::busy_until(s, end);
     Step::Grant {
@@ -70,9 +70,9 @@ fn rest(p: &Plan, s: &mut Cascade, d: u64) -> Step
     ensures { λ r. ⌜ r ≡ restBy (now (p .entry)) d (now (s .entry)) .answer ⌝ }
     ensures { λ r. ⌜ now (s .exit) ≡ restBy (now (p .entry)) d (now (s .entry)) .cells ⌝ }
 {
-    let moves = control::climb(p, s[5]);
-    s[5] = 1;
-    s[4] = 0;
+    let moves = control::climb(p, s[cells::HOLDER]);
+    s[cells::HOLDER] = 1;
+    s[cells::BUSY] = 0;
     Step::Rest { time: d, moves }
 }
 
@@ -91,17 +91,14 @@ fn handle(p: &Plan, s: &mut Cascade, d: u64) -> Step
     }
 }
 
-// A step whose bound row 11 allows, by the due instant.
-pub(crate) fn step_due(p: &Plan, s: &mut Cascade, due: Due, t: u64) -> Step
+// A step whose bound row 11 allows: the instant due before it is handled, if there is one.
+pub(crate) fn step_due(p: &Plan, s: &mut Cascade, t: u64) -> Step
     requires { ⌜ t ≤ last-time ⌝ }
-    ensures { λ r. ⌜ r ≡ stepDue (now (p .entry)) due t (now (s .entry)) .answer ⌝ }
-    ensures { λ r. ⌜ now (s .exit) ≡ stepDue (now (p .entry)) due t (now (s .entry)) .cells ⌝ }
+    ensures { λ r. ⌜ r ≡ stepDue (now (p .entry)) (dueBy (planIn (now (p .entry))) (now (s .entry))) t (now (s .entry)) .answer ⌝ }
+    ensures { λ r. ⌜ now (s .exit) ≡ stepDue (now (p .entry)) (dueBy (planIn (now (p .entry))) (now (s .entry))) t (now (s .entry)) .cells ⌝ }
 {
-    match due {
+    match instants::due_before(p, s, t) {
         Due::At(d) => {
-            if t <= d {
-                return Step::Quiet;
-            }
             frames::advance(p, s, d);
             handle(p, s, d)
         }

@@ -15,8 +15,6 @@ ghost use Rattle.cells.specs.Layout.{classOf, latestCell, requestCode};
 ghost use Rattle.cells.specs.Calls.{EventPromise, StepPromise};
 
 mod handling;
-mod instants;
-mod rows;
 
 // The cell of a request.
 fn request_code(high: bool, b: u64) -> u32
@@ -74,19 +72,19 @@ fn put_latest(s: &mut Cascade, k: u32, share: u32)
     requires { ⌜ (1 ≤ k) × (k ≤ 256) ⌝ }
     ensures { λ _. ⌜ now (s .exit) ≡ set (now (s .entry)) (latestCell k) share ⌝ }
 {
-    s[136 + (k as usize - 1) * 4 + 2] = share;
+    s[cells::NODES + (k as usize - 1) * cells::PER_NODE + cells::LATEST] = share;
 }
 
 // (reserve t k n b)
 pub fn reserve(p: &Plan, s: &mut Cascade, t: u64, k: u64, n: u64, b: u64) -> u32
     ensures { λ r. ⌜ EventPromise (now (p .entry)) (reserve t k n b) (now (s .entry)) r (now (s .exit)) ⌝ }
 {
-    let row = rows::reserve_row(p, s, t, k, n, b);
+    let row = admission::reserve_row(p, s, t, k, n, b);
     if row != 0 {
         return row;
     }
     frames::advance(p, s, t);
-    put_latest(s, k as u32, rows::share_code(n, b));
+    put_latest(s, k as u32, admission::share_code(n as u16, b as u16));
     0
 }
 
@@ -109,7 +107,7 @@ pub fn step(p: &Plan, s: &mut Cascade, t: u64) -> Step
     if rows::out_of_time(s, t) {
         return Step::Refused(11);
     }
-    handling::step_due(p, s, instants::due(p, s), t)
+    handling::step_due(p, s, t)
 }
 
 // An event, whichever it is: 0, or the number of the row that refuses it, and then no cell changes.

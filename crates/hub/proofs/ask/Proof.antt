@@ -3,7 +3,8 @@ use native.Mathlib.Omega.{arith}
 use Rattle.rules.specs.Call.{ask}
 use Rattle.cells.specs.Layout.{classOf}
 use Rattle.cells.specs.Calls.{changeBy}
-use Rattle.hub.proofs.CallLaws.{event-refused, event-taken, ask-asked}
+use Rattle.rows.proofs.CallRows.{ask-asked}
+use Rattle.hub.proofs.CallLaws.{event-refused, event-taken}
 use borrow.Author.Needs.{needs}
 use Rattle.hub.proofs.ask.Statement.{statement}
 use Rattle.hub.proofs.ask.Tie as tie

@@ -2,7 +2,8 @@
 use native.Mathlib.Omega.{arith}
 use Rattle.rules.specs.Call.{off}
 use Rattle.cells.specs.Calls.{changeBy}
-use Rattle.hub.proofs.CallLaws.{event-refused, event-taken, off-node}
+use Rattle.rows.proofs.CallRows.{off-node}
+use Rattle.hub.proofs.CallLaws.{event-refused, event-taken}
 use borrow.Author.Needs.{needs}
 use Rattle.hub.proofs.off.Statement.{statement}
 use Rattle.hub.proofs.off.Tie as tie

@@ -1,7 +1,6 @@
 -- `bits_at` meets its contract: each return by the tests that led there.
-use native.Mathlib.Nat.{add-zero}
 use borrow.Author.Tests.{lt-ltb, le-ltb}
-use Rattle.hub.proofs.Shares.{standing-bits}
+use Rattle.hub.proofs.RequestBits.{standing-bits}
 use borrow.Author.Needs.{needs}
 use Rattle.hub.proofs.handling.bits_at.Statement.{statement}
 use Rattle.hub.proofs.handling.bits_at.Tie as tie
@@ -21,6 +20,9 @@ mul-x c = search needs
 add-x : tie.Need-add-x
 add-x c = search needs
 
+add-x-2 : tie.Need-add-x-2
+add-x-2 c = search needs
+
 mul-x-2 : tie.Need-mul-x-2
 mul-x-2 c = search needs
 
@@ -28,14 +30,14 @@ element-copy-out-x : tie.Need-element-copy-out-x
 element-copy-out-x c = search needs
 
 returns-3 : tie.Need-returns-3
-returns-3 c = simp (le-ltb _ _ (c .before .before .before .if1 .left), le-ltb _ _ (c .before .before .if2 .left), add-zero, lt-ltb _ _ (c .if3 .taken))
+returns-3 c = simp (le-ltb _ _ (c .before .before .before .if1 .left), le-ltb _ _ (c .before .before .if2 .left), lt-ltb _ _ (c .if3 .taken))
 
 returns-4 : tie.Need-returns-4
 returns-4 c =
-    simp (le-ltb _ _ (c .before .before .before .if1 .left), le-ltb _ _ (c .before .before .if2 .left), add-zero)
+    simp (le-ltb _ _ (c .before .before .before .if1 .left), le-ltb _ _ (c .before .before .if2 .left))
     (standing-bits _ (c .if3 .left))
 
 pub bits-at-spec : {M : Type 1} → statement M
 bits-at-spec =
     tie.close
-    (tie.spec returns returns-2 sub-x mul-x add-x mul-x-2 element-copy-out-x returns-3 returns-4)
+    (tie.spec returns returns-2 sub-x mul-x add-x add-x-2 mul-x-2 element-copy-out-x returns-3 returns-4)

@@ -1,46 +1,64 @@
 -- `step_due` meets its contract: an instant before t is handled, the clock having come to it.
-use mathlib.Core.Path.{refl}
-use borrow.Author.Tests.{lt-ltb, le-ltb}
-use Rattle.cells.specs.Calls.{stepDue}
+use mathlib.Core.Path.{_≡_, sym, ap, _∙_}
+use mathlib.Core.Bool.{true}
+use lib.Dec.{ltb}
+use native.Mathlib.Omega.{arith}
+use borrow.Author.Tests.{ltb-true}
+use Rattle.cells.specs.declared.Due.the-variants.{At}
+use Rattle.cells.specs.Decode.{planIn}
+use Rattle.cells.specs.Instants.{dueBy}
+use Rattle.cells.specs.Calls.{Stepped, stepDue}
+use Rattle.instants.proofs.Bounded.{due-at, none-due}
+use Rattle.hub.proofs.CallLaws.{step-quiet}
 use borrow.Author.Needs.{needs}
 use Rattle.hub.proofs.handling.step_due.Statement.{statement}
 use Rattle.hub.proofs.handling.step_due.Tie as tie
 
-enum-known-due : tie.Need-enum-known-due
-enum-known-due c = search needs
+due-before-requires : tie.Need-due-before-requires
+due-before-requires c κs = search needs
 
-returns : tie.Need-returns
-unfolding stepDue
-returns c = simp (c .before .before .due .given .1, le-ltb _ _ (c .if1 .taken)) (refl, refl)
+enum-known-d : tie.Need-enum-known-d
+enum-known-d c = search needs
 
 advance-requires : tie.Need-advance-requires
 advance-requires c κs = search needs
 
+-- what is due, and that it is before t
+is-due : (c : tie.After-d) → (dueBy (planIn (c .before .before .before .before .args .p .now)) (c .before .before .before .before .args .s .now) ≡ At (c .d .given .0 .0))
+    × (ltb (c .d .given .0 .0) (c .before .before .before .before .args .t) ≡ true)
+is-due c =
+    let a = c .before .before .before .before .args in
+    due-at (planIn (a .p .now)) (a .t) (a .s .now) (sym (c .before .before .due-before .ensures) ∙ c .d .given .1)
+
 handle-requires : tie.Need-handle-requires
-handle-requires c κs = search needs
+handle-requires c κs =
+    let d = c .before .before .before .before in
+    omega (arith, ltb-true (d .d .given .0 .0) (d .before .before .before .before .args .t) (is-due d .1))
 
 enum-told : tie.Need-enum-told
 enum-told c = search needs
 
-returns-2 : tie.Need-returns-2
+returns : tie.Need-returns
 unfolding stepDue
-returns-2 c =
-    let e = c .before .before .advance .ensures in
-    simp (c .before .before .before .before .before .before .due .given .1, lt-ltb _ _ (c .before .before .before .before .if1 .left), ← e)
-    (c .handle .ensures)
+returns c =
+    let w = is-due (c .before .before .before .before .before) in
+    simp (w .0, w .1, ← c .before .before .advance .ensures) (c .handle .ensures)
 
-returns-3 : tie.Need-returns-3
-unfolding stepDue
-returns-3 c = simp (c .enum-told .given .1) (refl, refl)
+returns-2 : tie.Need-returns-2
+returns-2 c =
+    let a = c .before .before .before .before .args in
+    let w = none-due (planIn (a .p .now)) (a .t) (a .s .now) (sym (c .before .before .due-before .ensures) ∙ c .enum-told .given .1) in
+    let e = step-quiet (a .p .now) (a .s .now) (a .t) (dueBy (planIn (a .p .now)) (a .s .now)) w in
+    (sym (ap (λ (x : Stepped). x .answer) e), sym (ap (λ (x : Stepped). x .cells) e))
 
 pub step-due-spec : {M : Type 1} → statement M
 step-due-spec =
     tie.close
     (tie.spec
-    enum-known-due
-    returns
+    due-before-requires
+    enum-known-d
     advance-requires
     handle-requires
     enum-told
-    returns-2
-    returns-3)
+    returns
+    returns-2)

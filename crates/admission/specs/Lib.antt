@@ -1,0 +1,2 @@
+-- A reservation's rows without its time.
+pub mod Share

@@ -1,0 +1,2 @@
+-- Laws of the due instant before a bound, for the proofs of the functions and of their callers.
+pub mod Bounded
