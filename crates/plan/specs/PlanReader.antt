@@ -18,14 +18,16 @@ use Rattle.text.specs.declared.Form.the-variants.{Numbers, NoForm}
 use Rattle.plan.specs.declared.Answer.the-variants.{Taken, Refused}
 use Rattle.plan.specs.declared.Figure.{Figure}
 use Rattle.plan.specs.declared.Figure.the-variants.{Got, Not}
-use Rattle.plan.specs.declared.Place.{Place}
-use Rattle.plan.specs.declared.Part.{Part}
-use Rattle.plan.specs.declared.Part.the-variants.{Read, Stopped}
-use Rattle.plan.specs.Kind.{kindOf, frame-word, overhead-word, interrupt-word}
-use Rattle.plan.specs.Tables.{noTable, putRoot, putFigures}
-use Rattle.plan.specs.Reading.{Figures, isHub}
+use Rattle.plan_tree.specs.declared.Place.{Place}
+use Rattle.plan_tree.specs.declared.Part.{Part}
+use Rattle.plan_tree.specs.declared.Part.the-variants.{Read, Stopped}
+use Rattle.plan_tree.specs.Kind.{kindOf, isHub}
+use Rattle.plan.specs.Words.{frame-word, overhead-word, interrupt-word}
+use Rattle.plan_tree.specs.Tables.{noTable}
+use Rattle.plan.specs.Tables.{putFigures}
+use Rattle.plan.specs.Reading.{Figures}
 use Rattle.plan.specs.Reading as reading
-use Rattle.plan.specs.Readers.{Answered, stop, hubReader}
+use Rattle.plan_tree.specs.Readers.{Answered, stop, rootReader}
 
 abbrev pub refused : ℕ → ℕ → reading.Read
 refused line number = record { answer = Refused line number; tables = [] }
@@ -85,7 +87,7 @@ behindRoot (Stopped line number) more = stop line number []
 module _ (text : List ℕ) (left : ℕ) where
   -- the root hub at a cursor, whose lines are at most `left`
   abbrev pub hubAt : Figures → Cursor → reading.Read
-  hubAt fig c = planOver fig (behindRoot (rootAt text c) (λ x. hubReader text left x 1 0 4 (putRoot noTable)))
+  hubAt fig c = planOver fig (behindRoot (rootAt text c) (λ x. rootReader text left x noTable))
 
   abbrev pub interruptAt : ℕ → ℕ → Cursor → reading.Read
   interruptAt T O c =

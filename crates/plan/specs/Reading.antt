@@ -10,12 +10,14 @@ use Rattle.rules.specs.Plan.{longest-packet, most-hubs, most-ports, most-nodes,
 use Rattle.text.specs.Line.{Lines, nothing, unended, ended, lines, nextNumber}
 use Rattle.text.specs.Form.{readForm}
 use Rattle.text.specs.declared.Cursor.{Cursor}
-use Rattle.plan.specs.declared.Kind.{Kind}
-use Rattle.plan.specs.declared.Kind.the-variants.{Close, Node, Empty, Hub, Other}
+use Rattle.plan_tree.specs.declared.Kind.{Kind}
+use Rattle.plan_tree.specs.declared.Kind.the-variants.{Close, Node, Empty, Hub, Other}
 use Rattle.plan.specs.declared.Answer.{Answer}
 use Rattle.plan.specs.declared.Answer.the-variants.{Taken, Refused}
-use Rattle.plan.specs.Kind.{kindOf, frame-word, overhead-word, interrupt-word}
-use Rattle.plan.specs.Tables.{noTable, putEmpty, putNode, putHub, putPorts, putRoot, putFigures}
+use Rattle.plan_tree.specs.Kind.{kindOf, isHub}
+use Rattle.plan.specs.Words.{frame-word, overhead-word, interrupt-word}
+use Rattle.plan_tree.specs.Tables.{noTable, putEmpty, putNode, putHub, putPorts, putRoot}
+use Rattle.plan.specs.Tables.{putFigures}
 
 -- the answer, and the tables where the plan is taken
 pub record Read : Type 0 where
@@ -150,13 +152,6 @@ module _ (fig : Figures) where
 -- before any port line: hub 1 is open
 abbrev pub begun : Progress
 begun = record { inner = record { hub = 1; ports = 0 }; outer = []; nodes = 0; hubs = 1; tables = putRoot noTable }
-
-abbrev pub isHub : Kind → Bool
-isHub Close = false
-isHub Node = false
-isHub Empty = false
-isHub Hub = true
-isHub Other = false
 
 -- the line `(hub` of the root
 unfoldable pub rootLine : Figures → Lines → Cursor → Read

@@ -1,4 +1,10 @@
-// The plan: read from a text into tables of 32-bit cells.
+// The plan: its header's lines, and with its tree the whole of it, read from a text into tables of 32-bit cells.
+// Each line of the header has a function, which reads the line and hands on to the next line's; the last hands on to `plan_tree`.
+use plan_tree::CELLS;
+use plan_tree::Kind;
+use plan_tree::Part;
+use plan_tree::Place;
+use plan_tree::Plan;
 use text::Cursor;
 use text::Form;
 use text::Next;
@@ -8,18 +14,6 @@ ghost use lib.ListN.{length};
 ghost use Rattle.plan.specs.Tables.{putFigures};
 ghost use Rattle.plan.specs.Reading.{reading, leaves};
 ghost use Rattle.plan.specs.PlanReader.{inRange, figureAt, rootAt, hubAt, interruptAt, overheadAt};
-
-mod readers;
-mod stores;
-
-// What a line of a plan is, other than a figure's.
-pub enum Kind {
-    Close,
-    Node,
-    Empty,
-    Hub,
-    Other,
-}
 
 // A plan is taken, with its numbers of nodes and hubs and where the events
 // start (byte and line number), or refused at a line with a number.
@@ -36,26 +30,7 @@ pub enum Answer {
     },
 }
 
-// Where a reader is: the next line's place and number, and the nodes and hubs so far.
-pub struct Place {
-    pub at: usize,
-    pub number: usize,
-    pub nodes: u32,
-    pub hubs: u32,
-}
-
-// A part of the plan was read up to a place, or a line is refused.
-pub enum Part {
-    Read(Place),
-    Stopped { line: usize, number: u8 },
-}
-
-// The tables of a plan: see specs/Tables.antt for what stands where.
-pub type Plan = [u32; CELLS];
-
-pub const CELLS: usize = 1672;
-
-// The figures: T, O, D, N and H.
+// The figures' cells, before those of the hubs: T, O, D, N and H. Three more are kept for later figures.
 pub const FRAME: usize = 0;
 
 pub const OVERHEAD: usize = 1;
@@ -65,33 +40,6 @@ pub const INTERRUPT: usize = 2;
 pub const NODE_COUNT: usize = 3;
 
 pub const HUB_COUNT: usize = 4;
-
-// Hub g's cells begin at HUBS + (g - 1) * PER_HUB: how many ports it has, its parent, the port there, its level; port q is at PORT + q.
-pub const HUBS: usize = 8;
-
-pub const PER_HUB: usize = 36;
-
-pub const PORT_COUNT: usize = 0;
-
-pub const PARENT: usize = 1;
-
-pub const PLACE: usize = 2;
-
-pub const LEVEL: usize = 3;
-
-pub const PORT: usize = 3;
-
-// A port's cell is 0 where it is empty, a node's number, or HUB_CODE + g for hub g.
-pub const HUB_CODE: u32 = 256;
-
-// Node k's cells begin at NODES + (k - 1) * PER_NODE: its hub, and its port there.
-pub const NODES: usize = 1160;
-
-pub const PER_NODE: usize = 2;
-
-pub const NODE_HUB: usize = 0;
-
-pub const NODE_PORT: usize = 1;
 
 // A figure that was read, and where the next line starts; or a line is refused.
 pub enum Figure {
@@ -155,7 +103,7 @@ fn root_at(text: &[u8], c: Cursor) -> Part
             number,
             next,
         } => {
-            let kind = readers::kind_of(text, start, end);
+            let kind = plan_tree::kind_of(text, start, end);
             if let Kind::Hub = kind {
                 return Part::Read(Place {
                     at: next.at,
@@ -189,11 +137,11 @@ fn put_figures(s: &mut Plan, t: u64, o: u64, d: u64, nodes: u32, hubs: u32)
     requires { ⌜ (t ≤ 4000000) × (o ≤ 50000) × (d ≤ 4000000) ⌝ }
     ensures { λ _. ⌜ now (s .exit) ≡ putFigures t o d nodes hubs (now (s .entry)) ⌝ }
 {
-    s[0] = t as u32;
-    s[1] = o as u32;
-    s[2] = d as u32;
-    s[3] = nodes;
-    s[4] = hubs;
+    s[FRAME] = t as u32;
+    s[OVERHEAD] = o as u32;
+    s[INTERRUPT] = d as u32;
+    s[NODE_COUNT] = nodes;
+    s[HUB_COUNT] = hubs;
 }
 
 // The root hub at a cursor. It is read into a table of its own, which takes the lent one's place at the end.
@@ -204,9 +152,8 @@ fn hub_at(text: &[u8], plan: &mut Plan, t: u64, o: u64, d: u64, c: Cursor) -> An
 {
     match root_at(text, c) {
         Part::Read(x) => {
-            let mut s = [0u32; 1672];
-            s[11] = 1;
-            match readers::hub_reader(text, &mut s, x, 1, 0, 4, text.len()) {
+            let mut s = [0u32; CELLS];
+            match plan_tree::root_reader(text, &mut s, x) {
                 Part::Read(y) => {
                     if y.nodes == 0 {
                         return Answer::Refused {

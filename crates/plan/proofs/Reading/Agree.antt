@@ -14,17 +14,18 @@ use Rattle.text.specs.Line.{Lines, nothing, unended, ended, lines, nextNumber, 
 use Rattle.text.specs.Part.{part}
 use Rattle.text.specs.declared.Cursor.{Cursor}
 use Rattle.text.proofs.Lines.{scanned-line}
-use Rattle.plan.specs.declared.Kind.{Kind}
-use Rattle.plan.specs.declared.Kind.the-variants.{Close, Node, Empty, Hub, Other}
+use Rattle.plan_tree.specs.declared.Kind.{Kind}
+use Rattle.plan_tree.specs.declared.Kind.the-variants.{Close, Node, Empty, Hub, Other}
 use Rattle.plan.specs.declared.Answer.the-variants.{Taken}
-use Rattle.plan.specs.declared.Place.{Place}
-use Rattle.plan.specs.declared.Part.{Part}
-use Rattle.plan.specs.declared.Part.the-variants.{Read, Stopped}
-use Rattle.plan.specs.Kind.{kindOf}
-use Rattle.plan.specs.Tables.{putEmpty, putNode, putHub, putPorts, putFigures}
+use Rattle.plan_tree.specs.declared.Place.{Place}
+use Rattle.plan_tree.specs.declared.Part.{Part}
+use Rattle.plan_tree.specs.declared.Part.the-variants.{Read, Stopped}
+use Rattle.plan_tree.specs.Kind.{kindOf}
+use Rattle.plan_tree.specs.Tables.{putEmpty, putNode, putHub, putPorts}
+use Rattle.plan.specs.Tables.{putFigures}
 use Rattle.plan.specs.Reading as reading
 use Rattle.plan.specs.Reading.{Open, Progress, Figures, hubLines, passes, byKind, refusal, next}
-use Rattle.plan.specs.Readers.{Answered, stop, read, cursor, moved, withNode, withHub, behindPort, onKind, onNext, hubReader}
+use Rattle.plan_tree.specs.Readers.{Answered, stop, read, cursor, moved, withNode, withHub, behindPort, onKind, onNext, hubReader}
 use Rattle.plan.specs.PlanReader.{refused}
 
 -- the first line at a cursor, by its bytes, and the lines behind it

@@ -13,14 +13,15 @@ use Rattle.text.specs.Word.{isWord}
 use Rattle.text.specs.Form.{readForm, formOf, formAt}
 use Rattle.text.specs.declared.Cursor.{Cursor}
 use Rattle.plan.specs.declared.Figure.the-variants.{Got, Not}
-use Rattle.plan.specs.declared.Place.{Place}
-use Rattle.plan.specs.declared.Part.{Part}
-use Rattle.plan.specs.declared.Part.the-variants.{Read, Stopped}
-use Rattle.plan.specs.Kind.{kindOf, frame-word, overhead-word, interrupt-word}
-use Rattle.plan.specs.Tables.{noTable, putRoot}
+use Rattle.plan_tree.specs.declared.Place.{Place}
+use Rattle.plan_tree.specs.declared.Part.{Part}
+use Rattle.plan_tree.specs.declared.Part.the-variants.{Read, Stopped}
+use Rattle.plan_tree.specs.Kind.{kindOf, isHub}
+use Rattle.plan.specs.Words.{frame-word, overhead-word, interrupt-word}
+use Rattle.plan_tree.specs.Tables.{noTable, putRoot}
 use Rattle.plan.specs.Reading as reading
-use Rattle.plan.specs.Reading.{Figures, next, refusal, onLine, figure, isHub, begun, hubLines, rootLine, interruptLine, overheadLine, frameLine}
-use Rattle.plan.specs.Readers.{Answered, hubReader}
+use Rattle.plan.specs.Reading.{Figures, next, refusal, onLine, figure, begun, hubLines, rootLine, interruptLine, overheadLine, frameLine}
+use Rattle.plan_tree.specs.Readers.{Answered, hubReader}
 use Rattle.plan.specs.PlanReader.{figureOf, figureIn, figureAt, rootIn, rootAt, planOver, behindFigure, behindRoot, hubAt, interruptAt, overheadAt, planBy}
 use Rattle.plan.proofs.Reading.Agree.{First, first, over, Moves, hub-agrees}
 

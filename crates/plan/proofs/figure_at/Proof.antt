@@ -1,6 +1,6 @@
 -- `figure_at` meets its contract, by the laws of PlanLaws: one a return.
 use mathlib.Core.Path.{sym, _∙_}
-use Rattle.plan.proofs.Cited.PlanLaws.{figure-numbers, figure-none, figure-unended, figure-done}
+use Rattle.plan.proofs.PlanLaws.{figure-numbers, figure-none, figure-unended, figure-done}
 use borrow.Author.Needs.{needs}
 use Rattle.plan.proofs.figure_at.Statement.{statement}
 use Rattle.plan.proofs.figure_at.Tie as tie

@@ -3,9 +3,9 @@ use mathlib.Core.Path.{sym, ap, _∙_}
 use Prim.Native.Nat.{ℕ}
 use lib.ListN.{length}
 use Rattle.plan.specs.declared.Answer.the-variants.{Refused}
-use Rattle.plan.specs.Tables.{putRoot, putFigures}
+use Rattle.plan.specs.Tables.{putFigures}
 use Rattle.plan.specs.Reading.{Read, Figures, leaves}
-use Rattle.plan.proofs.Cited.PlanLaws.{root-stopped, hub-stopped, hub-no-node, hub-taken}
+use Rattle.plan.proofs.PlanLaws.{root-stopped, hub-stopped, hub-no-node, hub-taken}
 use borrow.Author.Needs.{needs}
 use Rattle.plan.proofs.hub_at.Statement.{statement}
 use Rattle.plan.proofs.hub_at.Tie as tie
@@ -16,11 +16,8 @@ root-at-requires c κs = search needs
 enum-known-x : tie.Need-enum-known-x
 enum-known-x c = search needs
 
-array-write-s : tie.Need-array-write-s
-array-write-s c = search needs
-
-hub-reader-requires : tie.Need-hub-reader-requires
-hub-reader-requires c κs = search needs
+root-reader-requires : tie.Need-root-reader-requires
+root-reader-requires c κs = search needs
 
 enum-known-y : tie.Need-enum-known-y
 enum-known-y c = search needs
@@ -29,13 +26,12 @@ one-before-requires : tie.Need-one-before-requires
 one-before-requires c κs = search needs
 
 returns : tie.Need-returns
-unfolding putRoot
 returns c =
     let a = c .before .before .before .before .before .before .before .before .before .before .before .before .before .args in
     let fig : Figures = record { frame = a .t; overhead = a .o; interrupt = a .d } in
     let x = c .before .before .before .before .before .before .before .before .before .x .given in
     let y = c .before .before .before .before .y .given in
-    let e = hub-no-node (a .text .now) (length (a .text .now)) fig (a .c) (x .0 .0) (sym (c .before .before .before .before .before .before .before .before .before .before .before .root-at .ensures) ∙ x .1) (y .0 .0) (sym (c .before .before .before .before .before .before .hub-reader .ensures .0) ∙ y .1) (c .before .if1 .taken) in
+    let e = hub-no-node (a .text .now) (length (a .text .now)) fig (a .c) (x .0 .0) (sym (c .before .before .before .before .before .before .before .before .before .before .before .root-at .ensures) ∙ x .1) (y .0 .0) (sym (c .before .before .before .before .before .before .root-reader .ensures .0) ∙ y .1) (c .before .if1 .taken) in
     (ap (λ (n : ℕ). Refused n 3) (c .one-before .ensures) ∙ sym (ap (λ (r : Read). r .answer) e), sym (ap (λ (r : Read). leaves r (a .plan .now)) e))
 
 put-figures-requires : tie.Need-put-figures-requires
@@ -48,30 +44,27 @@ enum-known-line-2 : tie.Need-enum-known-line-2
 enum-known-line-2 c = search needs
 
 returns-2 : tie.Need-returns-2
-unfolding putRoot
 returns-2 c =
     let a = c .before .before .before .before .before .before .before .before .before .before .before .before .before .before .args in
     let fig : Figures = record { frame = a .t; overhead = a .o; interrupt = a .d } in
     let x = c .before .before .before .before .before .before .before .before .before .before .x .given in
     let y = c .before .before .before .before .before .y .given in
-    let e = hub-taken (a .text .now) (length (a .text .now)) fig (a .c) (x .0 .0) (sym (c .before .before .before .before .before .before .before .before .before .before .before .before .root-at .ensures) ∙ x .1) (y .0 .0) (sym (c .before .before .before .before .before .before .before .hub-reader .ensures .0) ∙ y .1) (c .before .before .if1 .left) in
-    let f = c .before .before .before .before .before .before .before .hub-reader .ensures .1 in (
+    let e = hub-taken (a .text .now) (length (a .text .now)) fig (a .c) (x .0 .0) (sym (c .before .before .before .before .before .before .before .before .before .before .before .before .root-at .ensures) ∙ x .1) (y .0 .0) (sym (c .before .before .before .before .before .before .before .root-reader .ensures .0) ∙ y .1) (c .before .before .if1 .left) in
+    let f = c .before .before .before .before .before .before .before .root-reader .ensures .1 in (
       sym (ap (λ (r : Read). r .answer) e),
       c .put-figures .ensures ∙ ap (putFigures (a .t) (a .o) (a .d) (y .0 .0 .nodes) (y .0 .0 .hubs)) f ∙ sym (ap (λ (r : Read). leaves r (a .plan .now)) e),
     )
 
 returns-3 : tie.Need-returns-3
-unfolding putRoot
 returns-3 c =
     let a = c .before .before .before .before .before .before .before .before .before .before .args in
     let fig : Figures = record { frame = a .t; overhead = a .o; interrupt = a .d } in
     let x = c .before .before .before .before .before .before .x .given in
     let y = c .before .line .given in
-    let e = hub-stopped (a .text .now) (length (a .text .now)) fig (a .c) (x .0 .0) (sym (c .before .before .before .before .before .before .before .before .root-at .ensures) ∙ x .1) (y .0 .0) (y .0 .1 .0) (sym (c .before .before .before .hub-reader .ensures .0) ∙ y .1) in
+    let e = hub-stopped (a .text .now) (length (a .text .now)) fig (a .c) (x .0 .0) (sym (c .before .before .before .before .before .before .before .before .root-at .ensures) ∙ x .1) (y .0 .0) (y .0 .1 .0) (sym (c .before .before .before .root-reader .ensures .0) ∙ y .1) in
     (sym (ap (λ (r : Read). r .answer) e), sym (ap (λ (r : Read). leaves r (a .plan .now)) e))
 
 returns-4 : tie.Need-returns-4
-unfolding putRoot
 returns-4 c =
     let a = c .before .before .before .before .before .args in
     let fig : Figures = record { frame = a .t; overhead = a .o; interrupt = a .d } in
@@ -85,8 +78,7 @@ hub-at-spec =
     (tie.spec
     root-at-requires
     enum-known-x
-    array-write-s
-    hub-reader-requires
+    root-reader-requires
     enum-known-y
     one-before-requires
     returns

@@ -3,9 +3,9 @@ use mathlib.Core.Path.{sym, ap, _∙_}
 use native.Mathlib.Omega.{arith}
 use Prim.Native.Nat.{_+_}
 use lib.ListN.{length}
-use Rattle.plan.specs.Kind.{interrupt-word}
+use Rattle.plan.specs.Words.{interrupt-word}
 use Rattle.plan.specs.Reading.{Read, leaves}
-use Rattle.plan.proofs.Cited.PlanLaws.{figure-range, interrupt-got, interrupt-not}
+use Rattle.plan.proofs.PlanLaws.{figure-range, interrupt-got, interrupt-not}
 use borrow.Author.Needs.{needs}
 use Rattle.plan.proofs.interrupt_at.Statement.{statement}
 use Rattle.plan.proofs.interrupt_at.Tie as tie

@@ -2,9 +2,9 @@
 use mathlib.Core.Path.{sym, ap, _∙_}
 use native.Mathlib.Omega.{arith}
 use lib.ListN.{length}
-use Rattle.plan.specs.Kind.{overhead-word}
+use Rattle.plan.specs.Words.{overhead-word}
 use Rattle.plan.specs.Reading.{Read, leaves}
-use Rattle.plan.proofs.Cited.PlanLaws.{figure-range, overhead-got, overhead-not}
+use Rattle.plan.proofs.PlanLaws.{figure-range, overhead-got, overhead-not}
 use borrow.Author.Needs.{needs}
 use Rattle.plan.proofs.overhead_at.Statement.{statement}
 use Rattle.plan.proofs.overhead_at.Tie as tie

@@ -1,11 +1,11 @@
 -- `read` meets its contract: the readers' composition is the reading (PlanBy).
 use mathlib.Core.Path.{sym, ap, _∙_}
 use native.Mathlib.Omega.{arith}
-use Rattle.plan.specs.Kind.{frame-word}
+use Rattle.plan.specs.Words.{frame-word}
 use Rattle.plan.specs.Reading.{Read, leaves}
 use Rattle.text.specs.declared.Cursor.{Cursor}
 use Rattle.plan.specs.PlanReader.{figureAt}
-use Rattle.plan.proofs.Cited.PlanLaws.{figure-range, frame-got, frame-not, at-first}
+use Rattle.plan.proofs.PlanLaws.{figure-range, frame-got, frame-not, at-first}
 use borrow.Author.Needs.{needs}
 use Rattle.plan.proofs.read.Statement.{statement}
 use Rattle.plan.proofs.read.Tie as tie

@@ -1,7 +1,7 @@
 -- `root_at` meets its contract, by the laws of PlanLaws: one a return.
 use mathlib.Core.Path.{sym, _∙_}
-use Rattle.plan.proofs.Cited.Tags.{not-hub}
-use Rattle.plan.proofs.Cited.PlanLaws.{root-hub, root-other, root-unended, root-done}
+use Rattle.plan_tree.proofs.Cited.Tags.{not-hub}
+use Rattle.plan.proofs.PlanLaws.{root-hub, root-other, root-unended, root-done}
 use borrow.Author.Needs.{needs}
 use Rattle.plan.proofs.root_at.Statement.{statement}
 use Rattle.plan.proofs.root_at.Tie as tie

@@ -1,0 +1,13 @@
+-- The words of the header's lines, as fixed byte strings.
+use Prim.Native.Nat.{ℕ}
+use mathlib.Core.List.{List, [], _∷_}
+
+-- `(frame`, `(overhead` and `(interrupt`, each before its number
+abbrev pub frame-word : List ℕ
+frame-word = 40 ∷ 102 ∷ 114 ∷ 97 ∷ 109 ∷ 101 ∷ []
+
+abbrev pub overhead-word : List ℕ
+overhead-word = 40 ∷ 111 ∷ 118 ∷ 101 ∷ 114 ∷ 104 ∷ 101 ∷ 97 ∷ 100 ∷ []
+
+abbrev pub interrupt-word : List ℕ
+interrupt-word = 40 ∷ 105 ∷ 110 ∷ 116 ∷ 101 ∷ 114 ∷ 114 ∷ 117 ∷ 112 ∷ 116 ∷ []

@@ -1,0 +1,55 @@
+-- The figures of a plan: their ranges as facts, and a figure's line read from its drawing. Assumes nothing.
+use Prim.Native.Nat.{ℕ, _+_, _≤_, _<_, _^_}
+use mathlib.Core.Path.{_≡_}
+use mathlib.Core.Bool.{true, _&&_}
+use mathlib.Core.List.{List, [], _∷_}
+use borrow.Author.Tests.{leb-true, le-leb}
+use lib.Dec.{leb}
+use Rattle.text.specs.Form.{drawForm, readForm}
+use Rattle.text.specs.declared.Cursor.{Cursor}
+use Rattle.text.proofs.Words.{both}
+use Rattle.text.proofs.Forms.{read-drawn}
+use Rattle.plan.specs.Reading.{Read, Figures, figure}
+use Rattle.plan_theory.specs.Tree.{goodFigures}
+
+-- the ranges of document 01
+pub record Ranges (fig : Figures) : Type 0 where
+  pub frameLow : 100000 ≤ fig .frame
+  pub frameHigh : fig .frame ≤ 4000000
+  pub overheadHigh : fig .overhead ≤ 50000
+  pub interruptLow : 12000 + fig .overhead ≤ fig .interrupt
+  pub interruptHigh : fig .interrupt ≤ fig .frame
+
+pub good-ranges : (fig : Figures) → goodFigures fig ≡ true → Ranges fig
+unfolding goodFigures
+good-ranges fig e =
+    let T : ℕ = fig .frame in
+    let O : ℕ = fig .overhead in
+    let D : ℕ = fig .interrupt in
+    let d = both (leb 100000 T && leb T 4000000 && leb O 50000 && leb (12000 + O) D) (leb D T) e in
+    let c = both (leb 100000 T && leb T 4000000 && leb O 50000) (leb (12000 + O) D) (d .0) in
+    let b = both (leb 100000 T && leb T 4000000) (leb O 50000) (c .0) in
+    let a = both (leb 100000 T) (leb T 4000000) (b .0) in
+    record {
+      frameLow = leb-true 100000 T (a .0);
+      frameHigh = leb-true T 4000000 (a .1);
+      overheadHigh = leb-true O 50000 (b .1);
+      interruptLow = leb-true (12000 + O) D (c .1);
+      interruptHigh = leb-true D T (d .1);
+    }
+
+pub ranges-good : (fig : Figures) → Ranges fig → goodFigures fig ≡ true
+unfolding goodFigures
+ranges-good fig r =
+    rw (
+      le-leb 100000 (fig .frame) (r .frameLow),
+      le-leb (fig .frame) 4000000 (r .frameHigh),
+      le-leb (fig .overhead) 50000 (r .overheadHigh),
+      le-leb (12000 + fig .overhead) (fig .interrupt) (r .interruptLow),
+      le-leb (fig .interrupt) (fig .frame) (r .interruptHigh),
+    )
+
+-- a figure in its range is read from its drawing
+pub figure-drawn : (word : List ℕ) (n low high : ℕ) (c : Cursor) (more : ℕ → Read) → low ≤ n → n ≤ high → n < 10 ^ 16
+    → figure (readForm word 1 (drawForm word (n ∷ []))) low high c more ≡ more n
+figure-drawn word n low high c more a b small = rw (read-drawn word (n ∷ []) (small, tt), le-leb low n a, le-leb n high b)

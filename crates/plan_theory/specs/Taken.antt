@@ -1,0 +1,61 @@
+-- What it means that a text is taken for a tree: the words of the theorems about reading.
+use Prim.Native.Nat.{ℕ, _+_, _<_, _^_}
+use mathlib.Core.Path.{_≡_}
+use mathlib.Core.Bool.{true}
+use mathlib.Core.List.{List}
+use lib.ListN.{drop}
+use Rattle.rules.specs.Plan as rules
+use Rattle.rules.specs.Drawn.{Drawn, Within}
+use Rattle.text.specs.Line.{Lines, lines}
+use Rattle.plan.specs.declared.Answer.the-variants.{Taken, Refused}
+use Rattle.plan.specs.Tables.{planOf}
+use Rattle.plan_tree.specs.Tables.{hubOfNode, portOfNode}
+use Rattle.plan.specs.Reading.{Figures, reading}
+use Rattle.plan_theory.specs.Tree.{Hub, draw, nodesIn, hubsIn, limits, goodFigures, tablesOf}
+use Rattle.plan_theory.specs.Behind.{linesOf, past}
+
+-- a text starts with the drawing of a tree within the limits, behind three good figures, whatever follows it
+pub record DrawnBy (text : List ℕ) : Type 0 where
+  pub fig : Figures
+  pub tree : Hub
+  pub rest : Lines
+  pub good : goodFigures fig ≡ true
+  pub within : limits tree ≡ true
+  pub drawn : lines text ≡ draw fig tree rest
+
+-- the text is taken with these numbers of nodes and hubs, and the events start at this place and line
+abbrev pub TakenAs : List ℕ → ℕ → ℕ → ℕ → ℕ → Type 0
+TakenAs text nodes hubs at line = reading text .answer ≡ Taken nodes hubs at line
+
+abbrev pub RefusedAt : List ℕ → ℕ → ℕ → Type 0
+RefusedAt text line number = reading text .answer ≡ Refused line number
+
+-- the text is taken for this tree, and `rest` is what stands behind it
+pub record TakenFor (text : List ℕ) (fig : Figures) (h : Hub) (rest : Lines) : Type 0 where
+  pub answer : TakenAs text (nodesIn h) (hubsIn h) (past fig h .at) (past fig h .number)
+  pub tables : reading text .tables ≡ tablesOf fig h
+  pub behind : lines (drop (past fig h .at) text) ≡ rest
+  pub number : 1 + linesOf h < 2 ^ 64 → past fig h .number ≡ 1 + linesOf h
+
+-- the numbers and the tables that a text is taken with are those of the tree that it draws
+pub record OfTree (text : List ℕ) (nodes hubs at line : ℕ) (d : DrawnBy text) : Type 0 where
+  pub sameNodes : nodes ≡ nodesIn (d .tree)
+  pub sameHubs : hubs ≡ hubsIn (d .tree)
+  pub samePlace : at ≡ past (d .fig) (d .tree) .at
+  pub sameLine : line ≡ past (d .fig) (d .tree) .number
+  pub sameTables : reading text .tables ≡ tablesOf (d .fig) (d .tree)
+
+-- port q of hub g is a port of the plan, and x stands there
+pub record Holds (p : rules.Plan) (x : rules.Port) (g q : ℕ) : Type 0 where
+  pub hub : Within (p .hubs) g
+  pub place : Within (p .ports g) q
+  pub port : p .port g q ≡ x
+
+-- what later proofs need of any taken plan: its tables are a drawn plan's, with the
+-- numbers that the answer tells, and a node's own cells name the one port that holds it
+pub record TakenPlan (cells : List ℕ) (nodes hubs : ℕ) : Type 0 where
+  pub plan : Drawn (planOf cells)
+  pub nodes-told : planOf cells .nodes ≡ nodes
+  pub hubs-told : planOf cells .hubs ≡ hubs
+  pub node-port : (k : ℕ) → Within (planOf cells .nodes) k → Holds (planOf cells) (rules.node k) (hubOfNode cells k) (portOfNode cells k)
+  pub one-port : (k g q : ℕ) → Holds (planOf cells) (rules.node k) g q → (hubOfNode cells k ≡ g) × (portOfNode cells k ≡ q)

@@ -1,0 +1,138 @@
+-- The tree of a plan, how it is drawn as lines, its limits, and its tables: what reading is held against.
+use Prim.Native.Nat.{ℕ, _+_, max}
+use mathlib.Core.Bool.{Bool, true, false, _&&_}
+use mathlib.Core.List.{List, [], _∷_}
+use lib.Dec.{leb}
+use Rattle.rules.specs.Plan.{longest-packet, most-hubs, most-ports, most-nodes, most-levels}
+use Rattle.text.specs.Line.{Lines, ended}
+use Rattle.text.specs.Form.{drawForm}
+use Rattle.plan.specs.Words.{frame-word, overhead-word, interrupt-word}
+use Rattle.plan_tree.specs.Kind.{close-word, node-word, empty-word, hub-word}
+use Rattle.plan_tree.specs.Tables.{noTable, putEmpty, putNode, putHub, putPorts, putRoot}
+use Rattle.plan.specs.Tables.{putFigures}
+use Rattle.plan.specs.Reading.{Figures}
+
+-- a port is a node, empty or a hub; a hub is its ports and its closing line
+mutual
+  pub data Port : Type 0 where
+    node : Port
+    empty : Port
+    hub : Hub → Port
+
+  pub data Hub : Type 0 where
+    close : Hub
+    port : Port → Hub → Hub
+
+-- The drawing, in front of the lines that follow it. A hub is the line `(hub`,
+-- its ports, and the line `)`; `drawHub` draws it from its ports on.
+unfoldable mutual
+  pub drawPort : Port → Lines → Lines
+  drawPort node rest = ended node-word rest
+  drawPort empty rest = ended empty-word rest
+  drawPort (hub h) rest = ended hub-word (drawHub h rest)
+
+  pub drawHub : Hub → Lines → Lines
+  drawHub close rest = ended close-word rest
+  drawHub (port x h) rest = drawPort x (drawHub h rest)
+
+unfoldable pub draw : Figures → Hub → Lines → Lines
+draw fig h rest =
+    ended (drawForm frame-word (fig .frame ∷ []))
+    (ended (drawForm overhead-word (fig .overhead ∷ []))
+    (ended (drawForm interrupt-word (fig .interrupt ∷ [])) (ended hub-word (drawHub h rest))))
+
+-- how many ports a hub has
+unfoldable pub portsOf : Hub → ℕ
+portsOf close = 0
+portsOf (port x h) = 1 + portsOf h
+
+-- how many nodes and hubs stand in a port or a hub, the hub itself counted
+unfoldable mutual
+  pub nodesAt : Port → ℕ
+  nodesAt node = 1
+  nodesAt empty = 0
+  nodesAt (hub h) = nodesIn h
+
+  pub nodesIn : Hub → ℕ
+  nodesIn close = 0
+  nodesIn (port x h) = nodesAt x + nodesIn h
+
+unfoldable mutual
+  pub hubsAt : Port → ℕ
+  hubsAt node = 0
+  hubsAt empty = 0
+  hubsAt (hub h) = hubsIn h
+
+  pub hubsIn : Hub → ℕ
+  hubsIn close = 1
+  hubsIn (port x h) = hubsAt x + hubsIn h
+
+-- how many levels a hub has, its own counted
+unfoldable mutual
+  pub levelsAt : Port → ℕ
+  levelsAt node = 0
+  levelsAt empty = 0
+  levelsAt (hub h) = levelsIn h
+
+  pub levelsIn : Hub → ℕ
+  levelsIn close = 1
+  levelsIn (port x h) = max (levelsAt x + 1) (levelsIn h)
+
+-- whether each hub within a port or behind the ports of a hub has 1 to 32 ports
+abbrev pub wide : Hub → Bool
+wide h = leb 1 (portsOf h) && leb (portsOf h) most-ports
+
+unfoldable mutual
+  pub widthsAt : Port → Bool
+  widthsAt node = true
+  widthsAt empty = true
+  widthsAt (hub h) = wide h && widthsIn h
+
+  pub widthsIn : Hub → Bool
+  widthsIn close = true
+  widthsIn (port x h) = widthsAt x && widthsIn h
+
+-- the limits of the tree: 32 hubs, 1 to 32 ports in a hub, 1 to 256 nodes, 5 levels
+unfoldable pub limits : Hub → Bool
+limits h =
+    wide h && widthsIn h && leb (hubsIn h) most-hubs && leb 1 (nodesIn h) && leb (nodesIn h) most-nodes
+    && leb (levelsIn h) most-levels
+
+-- T is 100,000 to 4,000,000, O is 0 to 50,000, D is 12,000 + O to T
+unfoldable pub goodFigures : Figures → Bool
+goodFigures fig =
+    leb 100000 (fig .frame) && leb (fig .frame) 4000000 && leb (fig .overhead) 50000
+    && leb (longest-packet + fig .overhead) (fig .interrupt) && leb (fig .interrupt) (fig .frame)
+
+-- the numbers of nodes and hubs so far, in line order, and their tables
+pub record Filled : Type 0 where
+  pub nodes : ℕ
+  pub hubs : ℕ
+  pub tables : List ℕ
+
+abbrev pub withTables : List ℕ → Filled → Filled
+withTables t s = record { nodes = s .nodes; hubs = s .hubs; tables = t }
+
+-- A tree's tables, numbered in line order: what stands at port q of hub g,
+-- which is of level l, and what stands at the ports of hub g behind port q
+unfoldable mutual
+  pub fillPort : Port → ℕ → ℕ → ℕ → Filled → Filled
+  fillPort node g q l s =
+      record { nodes = s .nodes + 1; hubs = s .hubs; tables = putNode g q (s .nodes + 1) (s .tables) }
+  fillPort empty g q l s = withTables (putEmpty g q (s .tables)) s
+  fillPort (hub h) g q l s =
+      fillHub h (s .hubs + 1) 0 (l + 1)
+      (record { nodes = s .nodes; hubs = s .hubs + 1; tables = putHub g q (s .hubs + 1) (l + 1) (s .tables) })
+
+  pub fillHub : Hub → ℕ → ℕ → ℕ → Filled → Filled
+  fillHub close g q l s = withTables (putPorts g q (s .tables)) s
+  fillHub (port x h) g q l s = fillHub h g (q + 1) l (fillPort x g (q + 1) l s)
+
+-- hub 1 is the root, of level 1
+abbrev pub filled : Hub → Filled
+filled h = fillHub h 1 0 1 (record { nodes = 0; hubs = 1; tables = putRoot noTable })
+
+unfoldable pub tablesOf : Figures → Hub → List ℕ
+tablesOf fig h =
+    let s = filled h in
+    putFigures (fig .frame) (fig .overhead) (fig .interrupt) (s .nodes) (s .hubs) (s .tables)
