@@ -1,7 +1,8 @@
 -- Two ways to read a plan, and that they are one.
 --
 -- `specs/Reading` reads a plan line by line, in document 01's words: that is what a reader of this must believe. The code goes another way:
--- a hub reader and a port reader that call each other over the scanner (`plan_tree`, `specs/Readers`). Agree: what the hub reader
--- stops at is refused there line by line too, and what it reads is gone over line by line. PlanBy carries that over the header to the whole plan.
+-- a hub reader and a port reader that call each other over the scanner (`plan_tree`, `specs/Readers`). Agree: what the hub
+-- reader stops at is refused there line by line too, and what it reads is gone over line by line. PlanBy carries that over
+-- the header to the whole plan.
 pub mod Agree
 pub mod PlanBy

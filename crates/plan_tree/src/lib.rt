@@ -85,7 +85,7 @@ pub fn kind_of(text: &[u8], start: usize, end: usize) -> Kind
 }
 
 // The root hub from its ports on, at a place behind its `(hub`: it is hub 1, of level 1, and 4 levels may stand below it.
-// No line of it needs a test whether there are lines left, since each has a byte of the text.
+// Each of its lines has a byte of the text, so the text's length is enough for the readers, which take one off for each line.
 pub fn root_reader(text: &[u8], s: &mut Plan, x: Place) -> Part
     ensures { λ r. ⌜ r ≡ rootReader (now (text .entry)) (length (now (text .entry))) x (now (s .entry)) .part ⌝ }
     ensures { λ r. ⌜ now (s .exit) ≡ rootReader (now (text .entry)) (length (now (text .entry))) x (now (s .entry)) .tables ⌝ }

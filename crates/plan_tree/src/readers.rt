@@ -1,6 +1,11 @@
 // The hub reader and the port reader, which call each other: a hub form holds port forms, and a port form may hold a hub.
 // Levels and lines left fall. Both leave the tables that specs/Readers.antt says.
+use crate::EMPTY;
+use crate::HUBS;
 use crate::Kind;
+use crate::PER_HUB;
+use crate::PORT;
+use crate::PORT_COUNT;
 use crate::Part;
 use crate::Place;
 use crate::Plan;
@@ -41,7 +46,8 @@ fn empty_port(s: &mut Plan, line: usize, x: Place, g: u32, q: u32) -> Part
     if 32 <= q {
         return Part::Stopped { line, number: 3 };
     }
-    stores::put_empty(s, g, q + 1);
+    let at = HUBS + (g as usize - 1) * PER_HUB + (PORT + (q as usize + 1));
+    s[at] = EMPTY;
     Part::Read(x)
 }
 
@@ -54,7 +60,8 @@ fn close_hub(s: &mut Plan, line: usize, x: Place, g: u32, q: u32) -> Part
     if q == 0 {
         return Part::Stopped { line, number: 3 };
     }
-    stores::put_ports(s, g, q);
+    let at = HUBS + (g as usize - 1) * PER_HUB + PORT_COUNT;
+    s[at] = q;
     Part::Read(x)
 }
 

@@ -1,5 +1,4 @@
-// What is stored in a plan's tables as it is read.
-use crate::EMPTY;
+// What is stored in a plan's tables for a node and for a hub, which have cells at their port and of their own.
 use crate::HUB_CODE;
 use crate::HUBS;
 use crate::LEVEL;
@@ -11,28 +10,10 @@ use crate::PER_HUB;
 use crate::PER_NODE;
 use crate::PLACE;
 use crate::PORT;
-use crate::PORT_COUNT;
 use crate::Plan;
 ghost use mathlib.Core.Path.{_≡_};
 ghost use Prim.Native.Nat.{_≤_};
-ghost use Rattle.plan_tree.specs.Tables.{putEmpty, putNode, putHub, putPorts};
-
-pub(crate) fn put_empty(s: &mut Plan, g: u32, q: u32)
-    requires { ⌜ (1 ≤ g) × (g ≤ 32) ⌝ }
-    requires { ⌜ q ≤ 32 ⌝ }
-    ensures { λ _. ⌜ now (s .exit) ≡ putEmpty g q (now (s .entry)) ⌝ }
-{
-    let at = HUBS + (g as usize - 1) * PER_HUB + (PORT + q as usize);
-    s[at] = EMPTY;
-}
-
-pub(crate) fn put_ports(s: &mut Plan, g: u32, q: u32)
-    requires { ⌜ (1 ≤ g) × (g ≤ 32) ⌝ }
-    ensures { λ _. ⌜ now (s .exit) ≡ putPorts g q (now (s .entry)) ⌝ }
-{
-    let at = HUBS + (g as usize - 1) * PER_HUB;
-    s[at + PORT_COUNT] = q;
-}
+ghost use Rattle.plan_tree.specs.Tables.{putNode, putHub};
 
 pub(crate) fn put_node(s: &mut Plan, g: u32, q: u32, k: u32)
     requires { ⌜ (1 ≤ g) × (g ≤ 32) ⌝ }

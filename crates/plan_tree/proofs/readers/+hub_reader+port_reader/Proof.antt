@@ -79,7 +79,7 @@ hub-reader-returns-2 : (t : ℕ) → hub-reader-lts.Need-returns-2 (hub-met t) (
 hub-reader-returns-2 t c =
     let a = c .before .before .before .before .before .before .before .before .before .before .before .args in
     let w = c .before .before .before .before .before .before .start .given in
-    let e = closes (a .text .now) (a .left) (a .x) (a .g) (a .q) (a .levels) (a .s .now) (c .before .before .before .before .before .before .before .before .before .if1 .left) (w .0 .0) (w .0 .1 .0) (w .0 .1 .1 .0) (w .0 .1 .1 .1 .0) (cc) (cc) in
+    let e = closes (a .text .now) (a .left) (a .x) (a .g) (a .q) (a .levels) (a .s .now) (c .before .before .before .before .before .before .before .before .before .if1 .left) (w .0 .0) (w .0 .1 .0) (w .0 .1 .1 .0) (w .0 .1 .1 .1 .0) (sym (c .before .before .before .before .before .before .before .before .line-at .ensures) ∙ w .1) (sym (c .before .before .before .before .kind-of .ensures) ∙ c .before .before .enum-told .given .1) in
     (c .close-hub .ensures .0 ∙ sym (ap (λ (d : Answered). d .part) e), c .close-hub .ensures .1 ∙ sym (ap (λ (d : Answered). d .tables) e))
 
 hub-reader-sub-port-reader : (t : ℕ) → hub-reader-lts.Need-sub-port-reader (hub-met t) (hub-reader-at t) hub-reader.Post
