@@ -1,4 +1,4 @@
-//! Where each number stands in the two tables: a plan's as `crates/plan/specs/Tables.antt` says, a cascade's as
+//! Where each number stands in the two tables: a plan's as `specs/Tables.antt` of `plan` and of `plan_tree` says, a cascade's as
 //! `crates/cells/specs/Layout.antt` does. Nothing else in Rust has the place of a cell.
 //!
 //! It names nothing of this crate, so that the tests and the benchmark can take the file in as it is; each looks at some of it.

@@ -1,7 +1,7 @@
 // Admission: the rows of a reserve, and the cell of a reservation.
 // No public function has a `requires`: each says its answer for every content of both tables.
 use cells::Cascade;
-use plan::Plan;
+use plan_tree::Plan;
 ghost use mathlib.Core.Path.{_≡_};
 ghost use mathlib.Core.Bool.{not, _||_};
 ghost use Prim.Native.Nat.{_+_, _*_, _/_, _%_, _≤_};

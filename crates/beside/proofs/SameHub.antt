@@ -6,7 +6,7 @@ use mathlib.Core.List.{List, [], _∷_}
 use Rattle.rules.specs.Run.{Entry}
 use Rattle.plan.specs.Tables.{planOf}
 use Rattle.plan.specs.Reading.{reading}
-use Rattle.plan.specs.Taken.{TakenAs}
+use Rattle.plan_theory.specs.Taken.{TakenAs}
 use Rattle.demands.proofs.Sequence.{sequence}
 use Rattle.demands.proofs.Demands.{demands}
 use Rattle.beside.specs.Beside.{refusal, Effect, stays, comes-to, Beside, Lawful, seen, Item, of-hub, aside, effectOf, projected}

@@ -8,7 +8,7 @@ use Rattle.rules.specs.Rows.{Row, Verdict, accept, refuse, firstRow, row13}
 use Rattle.rules.specs.Run.{Entry}
 use Rattle.plan.specs.Tables.{planOf}
 use Rattle.plan.specs.Reading.{reading}
-use Rattle.plan.specs.Taken.{TakenAs}
+use Rattle.plan_theory.specs.Taken.{TakenAs}
 use Rattle.cells.specs.Decode.{planIn}
 use Rattle.cells.specs.Calls.{rowsBy}
 use Rattle.trials.specs.Plans.{plan01}

@@ -15,7 +15,7 @@ use Rattle.rules.specs.Run.{Entry}
 use Rattle.rules.proofs.Laws.Passes.{Which, which, yes′, no′, and-both}
 use Rattle.plan.specs.Tables.{planOf}
 use Rattle.plan.specs.Reading.{reading}
-use Rattle.plan.specs.Taken.{TakenAs}
+use Rattle.plan_theory.specs.Taken.{TakenAs}
 use Rattle.cells.specs.Calls.{rowBy, eventBy, stepBy, eventLeft, performBy}
 use Rattle.demands.specs.Demands.{Calls, event, stepping, Demands}
 use Rattle.demands.proofs.Demands.{demands}

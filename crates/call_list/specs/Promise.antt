@@ -10,7 +10,7 @@ use Rattle.rules.specs.Run.{Entry}
 use Rattle.rules.specs.Demand.{Holds3}
 use Rattle.plan.specs.Tables.{planOf}
 use Rattle.plan.specs.Reading.{reading}
-use Rattle.plan.specs.Taken.{TakenAs}
+use Rattle.plan_theory.specs.Taken.{TakenAs}
 use Rattle.demands.specs.Demands.{Calls, Demands}
 use Rattle.call_list.specs.Table.{countOf, listNumber, Listed, listFrom, entries}
 

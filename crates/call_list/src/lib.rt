@@ -2,7 +2,7 @@
 use cells::Cascade;
 use cells::Step;
 use event::Event;
-use plan::Plan;
+use plan_tree::Plan;
 ghost use mathlib.Core.Path.{_≡_};
 ghost use Prim.Native.Nat.{_+_, _*_, _≤_};
 ghost use mathlib.Core.Bool.{true};

@@ -2,7 +2,7 @@
 use cells::Cascade;
 use libc::STDIN_FILENO;
 use libc::STDOUT_FILENO;
-use plan::Plan;
+use plan_tree::Plan;
 use writer::Put;
 
 // The log of a text, through what is lent.
@@ -24,7 +24,7 @@ fn write_whole(text: &[u8], plan: &mut Plan, s: &mut Cascade, out: &mut [u8; 117
 fn main() {
     let mut text = io::large_buffer();
     let n = io::read_full(STDIN_FILENO, &mut text);
-    let mut plan = [0u32; plan::CELLS];
+    let mut plan = [0u32; plan_tree::CELLS];
     let mut cascade = [0u32; cells::CELLS];
     let mut out = [0u8; 1179648];
     write_whole(&text[..n], &mut plan, &mut cascade, &mut out);

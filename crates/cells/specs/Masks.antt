@@ -11,7 +11,7 @@ use Rattle.rules.specs.Call.{normal, high}
 use Rattle.rules.specs.Core.{isClass}
 use Rattle.ports.specs.Ports.{putPort, anyPort}
 use Rattle.ports.specs.Mask.{shows, maskOf}
-use Rattle.plan.specs.Tables as plan
+use Rattle.plan_tree.specs.Tables as plan
 use Rattle.cells.specs.Layout.{standing-cell, maskCell, requestCell, forceCell, grantedCell, ifHub, ifNode, requestOf, shareOf}
 
 -- what a node's cells say of whether its request counts in a class: request, high grants in the frame, and reservation in force

@@ -11,7 +11,7 @@ use Rattle.ports.specs.Mask.{shows, digit}
 use Rattle.ports.specs.Search.{lowestFrom}
 use Rattle.ports.specs.declared.Found.{Found}
 use Rattle.ports.specs.declared.Found.the-variants as found
-use Rattle.plan.specs.Tables as plan
+use Rattle.plan_tree.specs.Tables as plan
 use Rattle.cells.specs.declared.Look.{Look}
 use Rattle.cells.specs.declared.Look.the-variants.{Node, Pass, Round, Stop}
 use Rattle.cells.specs.declared.Turn.{Turn}

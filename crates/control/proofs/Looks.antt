@@ -14,7 +14,7 @@ use Rattle.ports.specs.Search.{lowestFrom}
 use Rattle.ports.specs.declared.Found.{Found}
 use Rattle.ports.specs.declared.Found.the-variants as found
 use Rattle.ports.proofs.Answers.{Answers, first-answers}
-use Rattle.plan.specs.Tables as plan
+use Rattle.plan_tree.specs.Tables as plan
 use Rattle.cells.specs.declared.Look.{Look}
 use Rattle.cells.specs.declared.Look.the-variants.{Node, Pass, Round, Stop}
 use Rattle.cells.specs.Layout.{maskCell, pointerCell, unmarkedCode, markedCode}

@@ -11,7 +11,7 @@ use Rattle.rules.specs.Control.{most-looks}
 use Rattle.ports.specs.Mask.{digit}
 use Rattle.cells.specs.declared.Look.the-variants.{Node, Pass, Round, Stop}
 use Rattle.cells.specs.declared.Turn.{Turn}
-use Rattle.plan.specs.Tables.{hubCell}
+use Rattle.plan_tree.specs.Tables.{hubCell}
 use Rattle.cells.specs.Layout.{holder-cell, class-cell, pointerCell, markedCode}
 use Rattle.cells.specs.Turns.{Turned, lookBy, afterLook, walkBy, climbBy, nearerBy, nearestBy, turningBy, walked, settled, chooseBy}
 

@@ -4,14 +4,14 @@
 use cells::Cascade;
 use cells::Look;
 use cells::Turn;
-use plan::Plan;
+use plan_tree::Plan;
 use ports::Found;
 ghost use mathlib.Core.Path.{_≡_};
 ghost use mathlib.Core.Bool.{false};
 ghost use Prim.Native.Nat.{_+_, _-_, _≤_, _<_};
 ghost use lib.ListN.{getD, set};
 ghost use Rattle.rules.specs.Plan.{most-hubs, most-ports};
-ghost use Rattle.plan.specs.Tables.{portOf, portCell};
+ghost use Rattle.plan_tree.specs.Tables.{portOf, portCell};
 ghost use Rattle.cells.specs.Layout.{maskCell, pointerCell, nodeCell};
 ghost use Rattle.cells.specs.Turns.{downBy, takeBy, upBy, handUpBy, lookBy, walkBy, climbBy, nearerBy, nearestBy, walked, settled, chooseBy};
 
@@ -66,15 +66,15 @@ fn take(p: &Plan, s: &mut Cascade, high: bool, g: u32, q: u32) -> Look
     ensures { λ r. ⌜ r ≡ takeBy high g q (portOf (getD (now (p .entry)) (portCell g q) 0)) (now (s .entry)) .look ⌝ }
     ensures { λ r. ⌜ now (s .exit) ≡ takeBy high g q (portOf (getD (now (p .entry)) (portCell g q) 0)) (now (s .entry)) .cells ⌝ }
 {
-    let x = p[plan::HUBS + (g as usize - 1) * plan::PER_HUB + (plan::PORT + q as usize)];
+    let x = p[plan_tree::HUBS + (g as usize - 1) * plan_tree::PER_HUB + (plan_tree::PORT + q as usize)];
     if x == 0 {
         return Look::Stop;
     }
-    if x <= plan::HUB_CODE {
+    if x <= plan_tree::HUB_CODE {
         point(s, high, g, (q + 1) * cells::PER_PORT);
         return Look::Node(x);
     }
-    let h = x - plan::HUB_CODE;
+    let h = x - plan_tree::HUB_CODE;
     if cells::MOST_HUBS < h {
         return Look::Stop;
     }
@@ -110,8 +110,8 @@ fn hand_up(p: &Plan, s: &mut Cascade, high: bool, g: u32) -> Look
         point(s, high, 1, cells::PORT_1);
         return Look::Round;
     }
-    let own = plan::HUBS + (g as usize - 1) * plan::PER_HUB;
-    go_up(s, high, p[own + plan::PARENT], p[own + plan::PLACE])
+    let own = plan_tree::HUBS + (g as usize - 1) * plan_tree::PER_HUB;
+    go_up(s, high, p[own + plan_tree::PARENT], p[own + plan_tree::PLACE])
 }
 
 // One look at hub g.
@@ -193,7 +193,7 @@ pub fn climb(p: &Plan, g: u32) -> u64
     if cells::MOST_HUBS < g {
         return 0;
     }
-    moves_up(p[plan::HUBS + (g as usize - 1) * plan::PER_HUB + plan::LEVEL])
+    moves_up(p[plan_tree::HUBS + (g as usize - 1) * plan_tree::PER_HUB + plan_tree::LEVEL])
 }
 
 // Moves from hub g up to hub t of its line.
@@ -241,13 +241,13 @@ fn nearest(p: &Plan, s: &Cascade, high: bool, g: u32, q: u32, t: u32, levels: u3
     if g == 1 {
         return u;
     }
-    let own = plan::HUBS + (g as usize - 1) * plan::PER_HUB;
+    let own = plan_tree::HUBS + (g as usize - 1) * plan_tree::PER_HUB;
     nearest(
         p,
         s,
         high,
-        p[own + plan::PARENT],
-        p[own + plan::PLACE],
+        p[own + plan_tree::PARENT],
+        p[own + plan_tree::PLACE],
         u,
         levels - 1,
     )

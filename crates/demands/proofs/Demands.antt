@@ -19,7 +19,7 @@ use Rattle.rules.proofs.Core.AlwaysSound.{Good, good}
 use Rattle.rules.proofs.Control.FollowsFlat.{control-follows}
 use Rattle.plan.specs.Tables.{planOf}
 use Rattle.plan.specs.Reading.{reading}
-use Rattle.plan.specs.Taken.{TakenAs}
+use Rattle.plan_theory.specs.Taken.{TakenAs}
 use Rattle.demands.specs.Promises.{Promises}
 use Rattle.demands.proofs.Promises.{drawn-promises}
 use Rattle.cells.specs.Layout.{timeAt, clock-cell}

@@ -21,7 +21,7 @@ use Rattle.rules.proofs.Core.Acceptance.{acceptable-taken, taken-acceptable}
 use Rattle.plan.specs.declared.Answer.the-variants.{Taken}
 use Rattle.plan.specs.Reading.{reading}
 use Rattle.plan.specs.Tables.{planOf}
-use Rattle.plan.proofs.TakenPlan.{taken-plan}
+use Rattle.plan_theory.proofs.TakenPlan.{taken-plan}
 use Rattle.demands.specs.Promises.{Promises, left, cascade}
 
 -- of any drawn plan

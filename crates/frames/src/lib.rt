@@ -2,7 +2,7 @@
 // No public function has a `requires`: each says its answer and the whole
 // table that it leaves, for every content, by a definition of `cells`.
 use cells::Cascade;
-use plan::Plan;
+use plan_tree::Plan;
 ghost use mathlib.Core.Path.{_≡_};
 ghost use Prim.Native.Nat.{_+_, _*_, _/_, _%_, _≤_, _<_};
 ghost use lib.ListN.{getD};

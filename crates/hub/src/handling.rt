@@ -4,7 +4,7 @@ use cells::Due;
 use cells::Sought;
 use cells::Step;
 use cells::Turn;
-use plan::Plan;
+use plan_tree::Plan;
 ghost use mathlib.Core.Path.{_≡_};
 ghost use Prim.Native.Nat.{_+_, _≤_};
 ghost use Rattle.rules.specs.Rows.{last-time};

@@ -3,7 +3,7 @@
 use cells::Cascade;
 use cells::Due;
 use cells::Sought;
-use plan::Plan;
+use plan_tree::Plan;
 ghost use mathlib.Core.Path.{_≡_};
 ghost use mathlib.Core.Bool.{true, false, _||_};
 ghost use Prim.Native.Nat.{_+_, _*_, _/_};

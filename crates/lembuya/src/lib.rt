@@ -3,7 +3,7 @@
 use cells::Cascade;
 use cells::Step;
 use plan::Answer;
-use plan::Plan;
+use plan_tree::Plan;
 use writer::Put;
 ghost use mathlib.Core.Path.{_≡_};
 ghost use lib.ListN.{set};

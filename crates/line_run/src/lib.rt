@@ -4,7 +4,7 @@ use cells::Cascade;
 use cells::Step;
 use event::Event;
 use events::Said;
-use plan::Plan;
+use plan_tree::Plan;
 use writer::Put;
 ghost use mathlib.Core.Path.{_≡_};
 ghost use mathlib.Core.Option.{some};

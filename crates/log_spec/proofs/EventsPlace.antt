@@ -9,13 +9,14 @@ use Rattle.text.specs.Line.{Lines, ended, lines, drawLines}
 use Rattle.text.specs.Form.{drawForm}
 use Rattle.text.specs.declared.Cursor.{Cursor}
 use Rattle.text.proofs.Lines.{draw-lines}
-use Rattle.plan.specs.Kind.{frame-word, overhead-word, interrupt-word, close-word, node-word, empty-word, hub-word}
+use Rattle.plan.specs.Words.{frame-word, overhead-word, interrupt-word}
+use Rattle.plan_tree.specs.Kind.{close-word, node-word, empty-word, hub-word}
 use Rattle.plan.specs.Reading.{Figures, next}
-use Rattle.plan.specs.Tree.{Port, node, empty, hub, Hub, close, port, drawPort, drawHub, draw}
-use Rattle.plan.specs.Behind.{pastPort, pastHub, pastFigures, past}
-use Rattle.plan.specs.Taken.{TakenAs}
-use Rattle.plan.proofs.Tree.TakenDrawn.{taken-drawn}
-use Rattle.plan.proofs.Tree.Taken.{taken-of}
+use Rattle.plan_theory.specs.Tree.{Port, node, empty, hub, Hub, close, port, drawPort, drawHub, draw}
+use Rattle.plan_theory.specs.Behind.{pastPort, pastHub, pastFigures, past}
+use Rattle.plan_theory.specs.Taken.{TakenAs}
+use Rattle.plan_theory.proofs.Tree.TakenDrawn.{taken-drawn}
+use Rattle.plan_theory.proofs.Tree.Taken.{taken-of}
 
 -- from cursor c, where `ls` stand, to cursor d, where `rest` stand: each line on the way has its LF at least
 record Onward (c d : Cursor) (ls rest : Lines) : Type 0 where

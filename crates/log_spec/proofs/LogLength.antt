@@ -14,8 +14,8 @@ use Rattle.plan.specs.declared.Answer.{Answer}
 use Rattle.plan.specs.declared.Answer.the-variants.{Taken, Refused}
 use Rattle.plan.specs.Tables.{planOf}
 use Rattle.plan.specs.Reading.{reading}
-use Rattle.plan.specs.Taken.{TakenAs}
-use Rattle.plan.proofs.TakenPlan.{taken-plan}
+use Rattle.plan_theory.specs.Taken.{TakenAs}
+use Rattle.plan_theory.proofs.TakenPlan.{taken-plan}
 use Rattle.log_lines.specs.Handed.{limit, handed}
 use Rattle.log_lines.specs.FirstLine.{nodesLine, refusedLine}
 use Rattle.log_spec.specs.Log.{eventsLog, planLog, logOf, logBytes}

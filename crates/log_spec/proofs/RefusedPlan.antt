@@ -12,12 +12,13 @@ use Rattle.rules.specs.Plan.{longest-packet}
 use Rattle.text.specs.Line.{Lines, nothing, unended, ended, lines}
 use Rattle.text.specs.Form.{readForm}
 use Rattle.text.specs.declared.Cursor.{Cursor}
-use Rattle.plan.specs.declared.Kind.{Kind}
-use Rattle.plan.specs.declared.Kind.the-variants.{Close, Node, Empty, Hub, Other}
+use Rattle.plan_tree.specs.declared.Kind.{Kind}
+use Rattle.plan_tree.specs.declared.Kind.the-variants.{Close, Node, Empty, Hub, Other}
 use Rattle.plan.specs.declared.Answer.{Answer}
 use Rattle.plan.specs.declared.Answer.the-variants.{Taken, Refused}
-use Rattle.plan.specs.Kind.{kindOf, frame-word, overhead-word, interrupt-word}
-use Rattle.plan.specs.Reading.{Read, refusal, next, onLine, Open, Progress, Figures, passes, addNode, addEmpty, openHub, closeHub, closed, byKind, hubLines, begun, isHub, rootLine, figure, interruptLine, overheadLine, frameLine, reading}
+use Rattle.plan_tree.specs.Kind.{kindOf, isHub}
+use Rattle.plan.specs.Words.{frame-word, overhead-word, interrupt-word}
+use Rattle.plan.specs.Reading.{Read, refusal, next, onLine, Open, Progress, Figures, passes, addNode, addEmpty, openHub, closeHub, closed, byKind, hubLines, begun, rootLine, figure, interruptLine, overheadLine, frameLine, reading}
 
 abbrev pub Named : Answer → Type 0
 Named (Taken nodes hubs at line) = Unit {0}

@@ -3,7 +3,7 @@
 use cells::Cascade;
 use libc::STDIN_FILENO;
 use libc::STDOUT_FILENO;
-use plan::Plan;
+use plan_tree::Plan;
 use writer::Put;
 ghost use Prim.Native.Nat.{_≤_};
 ghost use lib.ListN.{length};
@@ -57,7 +57,7 @@ fn run_all(input: &mut [u8; 1048576], plan: &mut Plan, s: &mut Cascade, out: &mu
 
 fn main() {
     let mut input = [0u8; 1048576];
-    let mut plan = [0u32; plan::CELLS];
+    let mut plan = [0u32; plan_tree::CELLS];
     let mut cascade = [0u32; cells::CELLS];
     let mut out = [0u8; 1179648];
     run_all(&mut input, &mut plan, &mut cascade, &mut out);

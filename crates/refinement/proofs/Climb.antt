@@ -20,9 +20,9 @@ use Rattle.ports.specs.Ports.{ports, putPort, anyPort}
 use Rattle.ports.specs.Mask.{shows, maskOf}
 use Rattle.ports.proofs.Coding.{mask-cong, shows-mask}
 use Rattle.ports.proofs.Summaries.{any-mask}
-use Rattle.plan.specs.Tables as plan
+use Rattle.plan_tree.specs.Tables as plan
 use Rattle.plan.specs.Tables.{planOf}
-use Rattle.plan.specs.Taken.{Holds}
+use Rattle.plan_theory.specs.Taken.{Holds}
 use Rattle.cells.specs.Layout.{cells, maskCell}
 use Rattle.cells.specs.Decode.{planIn}
 use Rattle.cells.specs.Masks.{maskWith, mend}

@@ -18,7 +18,7 @@ use Rattle.rules.proofs.Control.Intervals.{Shown, some, clear, shown-all}
 use Rattle.rules.proofs.Control.Cover.{shown, rises, hangs}
 use Rattle.ports.specs.Ports.{ports, anyPort}
 use Rattle.ports.proofs.Summaries.{sums-any}
-use Rattle.plan.specs.Taken.{Holds}
+use Rattle.plan_theory.specs.Taken.{Holds}
 use Rattle.refinement.specs.Kept.{seenAt}
 
 -- k is above a and up to z

@@ -12,7 +12,7 @@ use Rattle.rules.specs.Drawn.{Within}
 use Rattle.rules.proofs.Laws.Passes.{Which, which, yes′, no′}
 use Rattle.ports.specs.Ports.{anyPort}
 use Rattle.ports.specs.Mask.{shows}
-use Rattle.plan.specs.Tables as plan
+use Rattle.plan_tree.specs.Tables as plan
 use Rattle.cells.specs.Layout.{maskCell, ifHub}
 use Rattle.cells.specs.Masks.{maskWith, mend}
 use Rattle.refinement.specs.Kept.{SameButMasks}

@@ -9,7 +9,7 @@ use borrow.Author.Tests.{le-ltb, le-leb}
 use Rattle.rules.specs.Plan.{Plan, most-levels}
 use Rattle.rules.specs.Drawn.{Within}
 use Rattle.rules.specs.Core.{countsIn}
-use Rattle.plan.specs.Tables as plan
+use Rattle.plan_tree.specs.Tables as plan
 use Rattle.cells.specs.Layout.{cells}
 use Rattle.cells.specs.Decode.{planIn, coreOf}
 use Rattle.cells.specs.Masks.{countsAt, mend, mendNode}

@@ -7,18 +7,19 @@ use lib.ListN.{getD, getD-replicate}
 use lib.Seq.{getD-set-other}
 use Rattle.rules.specs.Plan.{Plan, node}
 use Rattle.rules.specs.Drawn.{Drawn, Within}
-use Rattle.plan.specs.Tables.{cells, hubCell, noTable, putRoot, planOf, hubOfNode, portOfNode}
+use Rattle.plan_tree.specs.Tables.{cells, hubCell, noTable, putRoot, hubOfNode, portOfNode}
+use Rattle.plan.specs.Tables.{planOf}
 use Rattle.plan.specs.Reading.{Figures, reading}
-use Rattle.plan.specs.Tree.{Hub, filled, tablesOf}
-use Rattle.plan.specs.Taken.{Holds, TakenAs, TakenPlan}
-use Rattle.plan.proofs.Tables.Regions.{hub-later, head-own}
-use Rattle.plan.proofs.Tables.Puts.{cell, figures-other}
-use Rattle.plan.proofs.Tables.Room.{root-room}
-use Rattle.plan.proofs.Tables.Filling.{kept-hub}
-use Rattle.plan.proofs.Tree.Room.{HubRoom, limits-room}
-use Rattle.plan.proofs.Tree.TakenDrawn.{taken-drawn}
-use Rattle.plan.proofs.Tree.Taken.{taken-of}
-use Rattle.plan.proofs.TakenPlan.{taken-plan}
+use Rattle.plan_theory.specs.Tree.{Hub, filled, tablesOf}
+use Rattle.plan_theory.specs.Taken.{Holds, TakenAs, TakenPlan}
+use Rattle.plan_theory.proofs.Tables.Regions.{hub-later, head-own}
+use Rattle.plan_theory.proofs.Tables.Puts.{cell, figures-other}
+use Rattle.plan_theory.proofs.Tables.Room.{root-room}
+use Rattle.plan_theory.proofs.Tables.Filling.{kept-hub}
+use Rattle.plan_theory.proofs.Tree.Room.{HubRoom, limits-room}
+use Rattle.plan_theory.proofs.Tree.TakenDrawn.{taken-drawn}
+use Rattle.plan_theory.proofs.Tree.Taken.{taken-of}
+use Rattle.plan_theory.proofs.TakenPlan.{taken-plan}
 use Rattle.cells.specs.Decode.{bounded, planIn}
 use Rattle.refinement.specs.Kept.{Ready}
 

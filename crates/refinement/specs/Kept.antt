@@ -12,9 +12,9 @@ use Rattle.rules.specs.Drawn.{Drawn, Within}
 use Rattle.rules.specs.Core.{countsIn}
 use Rattle.rules.specs.Control.{shows}
 use Rattle.ports.specs.Mask.{maskOf, digit}
-use Rattle.plan.specs.Tables as plan
-use Rattle.plan.specs.Tables.{hubOfNode, portOfNode}
-use Rattle.plan.specs.Taken.{Holds}
+use Rattle.plan_tree.specs.Tables as plan
+use Rattle.plan_tree.specs.Tables.{hubOfNode, portOfNode}
+use Rattle.plan_theory.specs.Taken.{Holds}
 use Rattle.cells.specs.Layout.{cells, standing-cell, holder-cell, class-cell, maskCell, pointerCell, requestCell, classOf}
 use Rattle.cells.specs.Decode.{planIn, coreOf}
 use Rattle.cells.specs.Masks.{stands}

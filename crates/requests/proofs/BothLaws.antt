@@ -11,7 +11,7 @@ use Rattle.rules.specs.Plan.{most-hubs}
 use Rattle.rules.proofs.Laws.Passes.{Which, which, yes′, no′}
 use Rattle.ports.specs.Ports.{anyPort}
 use Rattle.ports.specs.Mask.{shows}
-use Rattle.plan.specs.Tables as plan
+use Rattle.plan_tree.specs.Tables as plan
 use Rattle.cells.specs.Layout.{maskCell}
 use Rattle.cells.specs.Masks.{mend, maskWith}
 use Rattle.requests.proofs.MendLaws.{none-left, no-hub, past-hubs, one-up}

@@ -9,7 +9,7 @@ use lib.ListN.{getD, set}
 use Rattle.ports.specs.Ports.{anyPort}
 use Rattle.ports.specs.Mask.{shows}
 use Rattle.rules.specs.Plan.{most-hubs}
-use Rattle.plan.specs.Tables as plan
+use Rattle.plan_tree.specs.Tables as plan
 use Rattle.cells.specs.Layout.{maskCell}
 use Rattle.cells.specs.Masks.{mend, maskWith}
 

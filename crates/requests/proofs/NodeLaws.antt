@@ -7,7 +7,7 @@ use native.Mathlib.Omega.{arith}
 use borrow.Author.Tests.{lt-ltb, le-ltb}
 use lib.ListN.{getD, set}
 use Rattle.rules.specs.Plan.{most-nodes, most-levels}
-use Rattle.plan.specs.Tables.{hubOfNode, portOfNode}
+use Rattle.plan_tree.specs.Tables.{hubOfNode, portOfNode}
 use Rattle.cells.specs.Layout.{standing-cell, requestCell, forceCell, grantedCell, ifNode}
 use Rattle.cells.specs.Masks.{countsBy, mend, mendNode, standingAfter, putRequest, grantedMore, grantNode}
 

@@ -1,7 +1,7 @@
 // The cascade's table: times, requests, and the masks that a change at a node mends from its hub up to the root.
 // No public function has a `requires`: each says the whole table that it leaves, for every content, by a definition of `cells`.
 use cells::Cascade;
-use plan::Plan;
+use plan_tree::Plan;
 ghost use mathlib.Core.Path.{_≡_};
 ghost use mathlib.Core.Bool.{true, false};
 ghost use Prim.Native.Nat.{_+_, _*_, _≤_};
@@ -80,12 +80,12 @@ fn mend_both(p: &Plan, s: &mut Cascade, g: u32, q: u32, normal: bool, high: bool
     let h = ports::put_port(s[at + cells::HIGH_MASK], q, high);
     s[at + cells::MASK] = n;
     s[at + cells::HIGH_MASK] = h;
-    let own = plan::HUBS + (g as usize - 1) * plan::PER_HUB;
+    let own = plan_tree::HUBS + (g as usize - 1) * plan_tree::PER_HUB;
     mend_both(
         p,
         s,
-        p[own + plan::PARENT],
-        p[own + plan::PLACE],
+        p[own + plan_tree::PARENT],
+        p[own + plan_tree::PLACE],
         ports::any_shown(n),
         ports::any_shown(h),
         levels - 1,
@@ -103,7 +103,7 @@ pub fn mend_node(p: &Plan, s: &mut Cascade, k: u32)
         return;
     }
     let at = cells::NODES + (k as usize - 1) * cells::PER_NODE;
-    let own = plan::NODES + (k as usize - 1) * plan::PER_NODE;
+    let own = plan_tree::NODES + (k as usize - 1) * plan_tree::PER_NODE;
     let normal = counts(
         false,
         s[at + cells::REQUEST],
@@ -119,8 +119,8 @@ pub fn mend_node(p: &Plan, s: &mut Cascade, k: u32)
     mend_both(
         p,
         s,
-        p[own + plan::NODE_HUB],
-        p[own + plan::NODE_PORT],
+        p[own + plan_tree::NODE_HUB],
+        p[own + plan_tree::NODE_PORT],
         normal,
         high,
         5,

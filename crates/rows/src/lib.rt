@@ -2,7 +2,7 @@
 // No public function has a `requires`: each says its answer for every content of both tables.
 use cells::Cascade;
 use cells::Due;
-use plan::Plan;
+use plan_tree::Plan;
 ghost use mathlib.Core.Path.{_≡_};
 ghost use mathlib.Core.Bool.{_||_};
 ghost use lib.Dec.{ltb};

@@ -2,7 +2,7 @@
 // all of it or nothing. `run` has no `requires`: what it writes is one definition of the whole log of a text, `log_spec`'s specs/Log.antt.
 use cells::Cascade;
 use plan::Answer;
-use plan::Plan;
+use plan_tree::Plan;
 use writer::Put;
 ghost use mathlib.Core.Path.{_≡_};
 ghost use Prim.Native.Nat.{suc};
@@ -134,7 +134,7 @@ fn log_fits(text: &[u8], buffer: &mut [u8]) -> bool
     if 1179648 <= buffer.len() {
         return true;
     }
-    let mut plan = [0u32; plan::CELLS];
+    let mut plan = [0u32; plan_tree::CELLS];
     let mut s = [0u32; cells::CELLS];
     match pass(text, &mut plan, &mut s, false, buffer) {
         Put::Behind(_) => true,

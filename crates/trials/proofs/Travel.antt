@@ -4,8 +4,9 @@ use Rattle.text.specs.Number.{digitRun, keepDigit, wellFormed, valueFrom, readR
 use Rattle.text.specs.Line.{before, lines}
 use Rattle.text.specs.Word.{startsWith, isWord}
 use Rattle.text.specs.Form.{andThen, readSpaced, readClose, readNumbers, readBehind, readForm}
-use Rattle.plan.specs.Kind.{kindOf}
-use Rattle.plan.specs.Tables.{putEmpty, putNode, putHub, putPorts, putRoot, putFigures, planOf}
+use Rattle.plan_tree.specs.Kind.{kindOf}
+use Rattle.plan_tree.specs.Tables.{putEmpty, putNode, putHub, putPorts, putRoot}
+use Rattle.plan.specs.Tables.{putFigures, planOf}
 use Rattle.plan.specs.Reading.{hubLines, rootLine, interruptLine, overheadLine, frameLine, reading}
 use Rattle.rules.specs.Choice.{any, sum, first}
 use Rattle.rules.specs.Core.{advance, countsIn, counts, held, due, sought}

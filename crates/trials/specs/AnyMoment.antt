@@ -6,7 +6,7 @@ use Rattle.rules.specs.AnyMomentRuns.{Worked, full-wait-across, worked-waits}
 use Rattle.rules.specs.AnyMoment.{Served}
 use Rattle.plan.specs.Tables.{planOf}
 use Rattle.plan.specs.Reading.{reading}
-use Rattle.plan.specs.Taken.{TakenAs}
+use Rattle.plan_theory.specs.Taken.{TakenAs}
 use Rattle.trials.specs.Plans.{plan01}
 
 -- the text is taken, with 4 nodes and 2 hubs; it ends at byte 91, and the next line would be line 12

@@ -3,7 +3,7 @@ use mathlib.Core.Path.{ap, _∙_}
 use Prim.Native.Nat.{ℕ}
 use native.Mathlib.Omega.{arith}
 use lib.ListN.{getD, set}
-use Rattle.plan.specs.Tables.{portCell}
+use Rattle.plan_tree.specs.Tables.{portCell}
 use Rattle.cells.specs.Layout.{pointerCell}
 use Rattle.control.proofs.Looks.{looked, take-empty, take-node, take-beyond, take-hub}
 use borrow.Author.Needs.{needs}
