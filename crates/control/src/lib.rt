@@ -66,7 +66,9 @@ fn take(p: &Plan, s: &mut Cascade, high: bool, g: u32, q: u32) -> Look
     ensures { λ r. ⌜ r ≡ takeBy high g q (portOf (getD (now (p .entry)) (portCell g q) 0)) (now (s .entry)) .look ⌝ }
     ensures { λ r. ⌜ now (s .exit) ≡ takeBy high g q (portOf (getD (now (p .entry)) (portCell g q) 0)) (now (s .entry)) .cells ⌝ }
 {
-    let x = p[plan_tree::HUBS + (g as usize - 1) * plan_tree::PER_HUB + (plan_tree::PORT + q as usize)];
+    let x = p[plan_tree::HUBS
+        + (g as usize - 1) * plan_tree::PER_HUB
+        + (plan_tree::PORT + q as usize)];
     if x == 0 {
         return Look::Stop;
     }
@@ -111,7 +113,12 @@ fn hand_up(p: &Plan, s: &mut Cascade, high: bool, g: u32) -> Look
         return Look::Round;
     }
     let own = plan_tree::HUBS + (g as usize - 1) * plan_tree::PER_HUB;
-    go_up(s, high, p[own + plan_tree::PARENT], p[own + plan_tree::PLACE])
+    go_up(
+        s,
+        high,
+        p[own + plan_tree::PARENT],
+        p[own + plan_tree::PLACE],
+    )
 }
 
 // One look at hub g.

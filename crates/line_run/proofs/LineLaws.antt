@@ -14,9 +14,9 @@ use Rattle.writer.specs.declared.Put.the-variants.{Behind}
 use Rattle.log_lines.specs.FirstLine.{refusedLine}
 use Rattle.event.specs.Call.{callOf}
 use Rattle.event.specs.declared.Event.{Event}
-use Rattle.events.specs.Event.{eventOf}
-use Rattle.events.specs.declared.Said.{Said}
-use Rattle.events.specs.declared.Said.the-variants as said
+use Rattle.event_lines.specs.Event.{eventOf}
+use Rattle.event_lines.specs.declared.Said.{Said}
+use Rattle.event_lines.specs.declared.Said.the-variants as said
 use Rattle.log_spec.specs.Cells.{line, numberBy, cellsBy, beforeBy, callBy, eventLineBy}
 use Rattle.line_run.specs.LineRun.{Ran, lineBy}
 

@@ -6,7 +6,7 @@ use mathlib.Core.List.{List, [], _∷_}
 use Rattle.writer.specs.declared.Put.{Put}
 use Rattle.writer.specs.declared.Put.the-variants.{Behind}
 use Rattle.log_lines.specs.FirstLine.{refusedLine}
-use Rattle.events.specs.Event.{eventOf, callOn}
+use Rattle.event_lines.specs.Event.{eventOf, callOn}
 use Rattle.log_spec.specs.Cells.{Run, line, eventLineBy}
 
 -- a run that has left this answer, these cells and this buffer

@@ -3,7 +3,7 @@
 use cells::Cascade;
 use cells::Step;
 use event::Event;
-use events::Said;
+use event_lines::Said;
 use plan_tree::Plan;
 use writer::Put;
 ghost use mathlib.Core.Path.{_≡_};
@@ -142,7 +142,7 @@ pub fn line_of(
     ensures { λ r. ⌜ Ran (lineBy write (now (p .entry)) (now (bytes .entry)) number ended (now (s .entry)) (now (buffer .entry)) at) r (now (s .exit)) (now (buffer .exit)) ⌝ }
 {
     if ended {
-        return match events::event_at(bytes, 0, bytes.len()) {
+        return match event_lines::event_at(bytes, 0, bytes.len()) {
             Said::Event(e) => event_line(p, s, number, e, write, buffer, at),
             Said::NoEvent => log_lines::refused_line(number as u64, 1, write, buffer, at),
         };

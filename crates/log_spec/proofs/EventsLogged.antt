@@ -19,9 +19,9 @@ use Rattle.log_lines.specs.FirstLine.{refusedLine}
 use Rattle.event.specs.Call.{callOf}
 use Rattle.event.specs.declared.Event.{Event}
 use Rattle.event.specs.declared.Event.the-variants.{Normal, High, Off, Reserve, Until}
-use Rattle.events.specs.declared.Said.{Said}
-use Rattle.events.specs.declared.Said.the-variants as said
-use Rattle.events.specs.Event.{eventOf, callOn}
+use Rattle.event_lines.specs.declared.Said.{Said}
+use Rattle.event_lines.specs.declared.Said.the-variants as said
+use Rattle.event_lines.specs.Event.{eventOf, callOn}
 use Rattle.cells.specs.Decode.{planIn}
 use Rattle.cells.specs.Calls.{eventAnswer, rowBy, eventBy, Performed, eventLeft, performBy}
 use Rattle.refinement.specs.Kept.{Ready}

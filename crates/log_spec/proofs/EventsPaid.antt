@@ -19,7 +19,7 @@ use Rattle.rules.proofs.Core.CallCases as course
 use Rattle.rules.proofs.Core.CallCases.{Course, refusal, quietly}
 use Rattle.text.specs.Line.{Lines, nothing, unended, ended, drawLines, nextNumber}
 use Rattle.log_lines.specs.FirstLine.{refusedLine}
-use Rattle.events.specs.Event.{eventOf, callOn}
+use Rattle.event_lines.specs.Event.{eventOf, callOn}
 use Rattle.log_spec.specs.Log.{Logged, eventLine, budget, afterStep, steps, stepsBefore, eventLog, eventsLog}
 use Rattle.log_spec.proofs.LineLengths.{no-form-length, Long, call-long}
 use Rattle.log_spec.proofs.PutAside.{aside, grant-pays, rest-pays, event-pays}

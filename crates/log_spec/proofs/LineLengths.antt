@@ -16,8 +16,8 @@ use Rattle.writer.specs.Write.{drawLine}
 use Rattle.log_lines.specs.FirstLine.{nodes-word, hubs-word, refused-word, nodesHead, nodesLine, refusedLine}
 use Rattle.log_lines.specs.Lines.{grant-word, rest-word, grantLine, restLine, classNumber}
 use Rattle.event.specs.declared.Event.{Event}
-use Rattle.events.specs.declared.Said.{Said}
-use Rattle.events.specs.Event.{normal-word, high-word, off-word, reserve-word, until-word, orElse, formed, eventOf, callOn}
+use Rattle.event_lines.specs.declared.Said.{Said}
+use Rattle.event_lines.specs.Event.{normal-word, high-word, off-word, reserve-word, until-word, orElse, formed, eventOf, callOn}
 
 -- each number with the space before it
 spaced : List ℕ → ℕ

@@ -17,7 +17,7 @@ use Rattle.rules.specs.Control.{below, lowest, walk, led, nearest, chooseBy}
 use Rattle.rules.specs.Machine.{perform}
 use Rattle.log_lines.specs.Handed.{handed}
 use Rattle.log_lines.specs.FirstLine.{nodesHead, nodesLine, refusedLine}
-use Rattle.events.specs.Event.{eventOf}
+use Rattle.event_lines.specs.Event.{eventOf}
 use Rattle.log_lines.specs.Lines.{grantLine, restLine, answerLine}
 use Rattle.trials.specs.Text.{bytes, textOf}
 use Rattle.trials.specs.Plans.{figures01, tree01}

@@ -21,7 +21,7 @@ use Rattle.plan.specs.declared.Answer.the-variants.{Taken, Refused}
 use Rattle.plan.specs.Reading.{reading, leaves}
 use Rattle.log_lines.specs.Handed.{handed}
 use Rattle.log_lines.specs.FirstLine.{firstLine, refusedLine}
-use Rattle.events.specs.Event.{eventOf, callOn}
+use Rattle.event_lines.specs.Event.{eventOf, callOn}
 use Rattle.log_lines.specs.Lines.{stepLine}
 use Rattle.cells.specs.declared.Step.{Step}
 use Rattle.cells.specs.declared.Step.the-variants as stepped

@@ -19,7 +19,7 @@ use Rattle.plan.specs.Tables.{planOf}
 use Rattle.plan.specs.Reading.{reading}
 use Rattle.log_lines.specs.Handed.{handed}
 use Rattle.log_lines.specs.FirstLine.{nodesLine, refusedLine}
-use Rattle.events.specs.Event.{eventOf, callOn}
+use Rattle.event_lines.specs.Event.{eventOf, callOn}
 use Rattle.log_lines.specs.Lines.{answerLine}
 
 -- the lines written so far, each with its LF, and the hub that is left

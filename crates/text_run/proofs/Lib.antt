@@ -1,4 +1,4 @@
--- The laws that the functions' proofs cite. Again and Lent serve the walk of `events`.
+-- The laws that the functions' proofs cite. Again and Lent serve the walk of `event_lines`.
 mod WholeLaws
 mod TwoPasses
 mod PassLaws

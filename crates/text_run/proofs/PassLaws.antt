@@ -17,7 +17,7 @@ use Rattle.reader.specs.LineReader.{found, foundAt}
 use Rattle.writer.specs.declared.Put.{Put}
 use Rattle.writer.specs.declared.Put.the-variants.{Behind, Short}
 use Rattle.log_lines.specs.FirstLine.{refusedLine}
-use Rattle.events.specs.Event.{eventOf, callOn}
+use Rattle.event_lines.specs.Event.{eventOf, callOn}
 use Rattle.log_spec.specs.Cells.{Run, line, goingOn, eventLineBy, nextBy, eventsBy}
 use Rattle.text_run.specs.declared.Went.{Went}
 use Rattle.line_run.specs.LineRun.{Ran, lineBy}

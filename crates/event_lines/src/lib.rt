@@ -4,7 +4,7 @@ use event::Event;
 use text::Form;
 ghost use mathlib.Core.Path.{_≡_};
 ghost use Rattle.text.specs.Part.{part};
-ghost use Rattle.events.specs.Event.{eventOf};
+ghost use Rattle.event_lines.specs.Event.{eventOf};
 
 // What a line says: an event, or none.
 pub enum Said {

@@ -1,4 +1,4 @@
--- `events::event_at` meets its contract, by the laws of EventLaws: one a return. Assumes nothing.
+-- `event_lines::event_at` meets its contract, by the laws of EventLaws: one a return. Assumes nothing.
 use mathlib.Core.Path.{_≡_, sym, _∙_}
 use mathlib.Core.List.{List}
 use Prim.Native.Nat.{ℕ}
@@ -6,10 +6,10 @@ use borrow.Author.Needs.{needs}
 use Rattle.text.specs.Form.{formAt}
 use Rattle.text.specs.declared.Form.{Form}
 use Rattle.text.specs.declared.Form.the-variants.{NoForm}
-use Rattle.events.specs.Event.{normal-word, high-word, off-word, reserve-word, until-word}
-use Rattle.events.proofs.EventLaws.{event-normal, event-high, event-off, event-reserve, event-until, event-none}
-use Rattle.events.proofs.event_at.Statement.{statement}
-use Rattle.events.proofs.event_at.Tie as tie
+use Rattle.event_lines.specs.Event.{normal-word, high-word, off-word, reserve-word, until-word}
+use Rattle.event_lines.proofs.EventLaws.{event-normal, event-high, event-off, event-reserve, event-until, event-none}
+use Rattle.event_lines.proofs.event_at.Statement.{statement}
+use Rattle.event_lines.proofs.event_at.Tie as tie
 
 -- the line as this form
 abbrev tried : tie.Start → List ℕ → ℕ → Form

@@ -6,8 +6,8 @@ use Rattle.text.specs.Part.{part}
 use Rattle.text.specs.Form.{formAt}
 use Rattle.text.specs.declared.Form.the-variants.{Numbers, NoForm}
 use Rattle.event.specs.declared.Event.the-variants.{Normal, High, Off, Reserve, Until}
-use Rattle.events.specs.declared.Said.the-variants.{Event, NoEvent}
-use Rattle.events.specs.Event.{eventOf, normal-word, high-word, off-word, reserve-word, until-word}
+use Rattle.event_lines.specs.declared.Said.the-variants.{Event, NoEvent}
+use Rattle.event_lines.specs.Event.{eventOf, normal-word, high-word, off-word, reserve-word, until-word}
 
 module _ (text : List ℕ) (start end : ℕ) where
   pub event-normal : (t k b x : ℕ) → formAt text start end normal-word 3 ≡ Numbers t k b x → Event (Normal t k b) ≡ eventOf (part text start end)

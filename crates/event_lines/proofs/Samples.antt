@@ -5,8 +5,8 @@ use Rattle.text.specs.Number.{keepDigit, digitRun, wellFormed, valueFrom, readR
 use Rattle.text.specs.Word.{startsWith, isWord}
 use Rattle.text.specs.Form.{andThen, readSpaced, readClose, readNumbers, readBehind, readForm, formOf}
 use Rattle.event.specs.declared.Event.the-variants.{Normal, High, Off, Reserve, Until}
-use Rattle.events.specs.declared.Said.the-variants.{Event, NoEvent}
-use Rattle.events.specs.Event.{eventOf}
+use Rattle.event_lines.specs.declared.Said.the-variants.{Event, NoEvent}
+use Rattle.event_lines.specs.Event.{eventOf}
 
 -- `(normal 5 3 100)`
 normal-line : eventOf (40 ∷ 110 ∷ 111 ∷ 114 ∷ 109 ∷ 97 ∷ 108 ∷ 32 ∷ 53 ∷ 32 ∷ 51 ∷ 32 ∷ 49 ∷ 48 ∷ 48 ∷ 41 ∷ []) ≡ Event (Normal 5 3 100)

@@ -9,8 +9,8 @@ use Rattle.rules.specs.Call.{Call}
 use Rattle.event.specs.Call.{callOf}
 use Rattle.event.specs.declared.Event.{Event}
 use Rattle.event.specs.declared.Event.the-variants.{Normal, High, Off, Reserve, Until}
-use Rattle.events.specs.declared.Said.{Said}
-use Rattle.events.specs.declared.Said.the-variants as said
+use Rattle.event_lines.specs.declared.Said.{Said}
+use Rattle.event_lines.specs.declared.Said.the-variants as said
 
 -- `(normal`, `(high`, `(off`, `(reserve`, `(until`
 abbrev pub normal-word : List ℕ
