@@ -1,4 +1,4 @@
--- A call over the cells is refused by a number from 11 to 17, by the law of `rules`: the rows over the cells have the numbers of those there.
+-- A call over the cells is refused by a number from 11 to 17, by the law of `rules`: its rows have the numbers of those there.
 -- 0 is none of these, so it says that no row applies.
 use Prim.Native.Nat.{ℕ}
 use mathlib.Core.Path.{_≡_, refl}

@@ -1,5 +1,5 @@
-// One line of a text, run over the lent tables: an event behind all steps strictly before it, each
-// with its line of the log, which is written into a lent buffer or only measured. No public function has a `requires`.
+// One line of a text, run over the lent tables: an event behind all steps strictly before it, each with its line of the log.
+// Lines are written into a lent buffer or only measured. No public function has a `requires`.
 use cells::Cascade;
 use cells::Step;
 use event::Event;
