@@ -33,7 +33,7 @@ no-15 c = sym (c .before .share-outside .ensures) ∙ c .if3 .left
 
 returns-2 : tie.Need-returns-2
 unfolding shareRowBy
-returns-2 c = rw (no-13 (c .before), lt-ltb _ _ (c .if2 .taken))
+returns-2 c = rw (no-13 (c .before), lt-ltb 64 (c .before .before .before .args .n) (omega arith))
 
 share-outside-requires : tie.Need-share-outside-requires
 share-outside-requires c κs = search needs

@@ -1,7 +1,10 @@
 -- `due_before` meets its contract: each return by the tests that led there.
 use mathlib.Core.Path.{sym, _∙_}
+use native.Mathlib.Omega.{arith}
+use lib.ListN.{getD}
 use borrow.Author.Tests.{eq-eqb, ne-eqb}
 use Rattle.plan.specs.Tables.{planOf}
+use Rattle.cells.specs.Layout.{standing-cell}
 use Rattle.cells.specs.Decode.{planIn}
 use Rattle.cells.specs.Instants.{restingDue, dueBy}
 use Rattle.instants.proofs.Bounded.{at-before, never-before}
@@ -48,7 +51,7 @@ unfolding dueBy restingDue
 returns-3 c =
     let a = c .before .before .before .before .before .before .before .args in
     never-before (planIn (a .p .now)) (a .t) (a .s .now)
-    (rw (eq-eqb _ _ (c .before .before .before .before .before .if1 .left), sym (c .before .before .before .some-counts .ensures) ∙ c .before .before .if2 .left, eq-eqb _ _ (c .if3 .taken)))
+    (rw (eq-eqb _ _ (c .before .before .before .before .before .if1 .left), sym (c .before .before .before .some-counts .ensures) ∙ c .before .before .if2 .left, eq-eqb (getD (a .s .now) standing-cell 0) 0 (omega arith)))
 
 element-copy-out-start-before : tie.Need-element-copy-out-start-before
 element-copy-out-start-before c = search needs

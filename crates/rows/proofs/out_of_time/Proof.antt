@@ -1,11 +1,13 @@
 -- `out_of_time` meets its contract: each return by the tests that led there.
+use native.Mathlib.Omega.{arith}
 use borrow.Author.Tests.{lt-ltb, le-ltb}
+use Rattle.rules.specs.Rows.{last-time}
 use borrow.Author.Needs.{needs}
 use Rattle.rows.proofs.out_of_time.Statement.{statement}
 use Rattle.rows.proofs.out_of_time.Tie as tie
 
 returns : tie.Need-returns
-returns c = simp (lt-ltb _ _ (c .if1 .taken))
+returns c = simp (lt-ltb last-time (c .before .args .t) (omega arith))
 
 clock-requires : tie.Need-clock-requires
 clock-requires c κs = search needs
