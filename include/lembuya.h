@@ -1,10 +1,11 @@
 /* The cascade hub: a controller that gives turns on one shared line (IEEE 802.12, demand priority).
  *
- * Every function here is proved to meet its contract (crates/lembuya/src/lib.rt), never to fault and always to end, for every content of the tables
- * and every length of the texts, lists and buffers. What a caller owes: each pointer names as many elements as said below, and what one call writes to
- * no other argument of it overlaps.
+ * Every function here is proved to meet its contract (crates/lembuya/src/lib.rt), never to fault and always to end, for every content of
+ * the tables and every length of the texts, lists and buffers. What a caller owes: each pointer names as many elements as said below, and
+ * what one call writes to no other argument of it overlaps.
  *
- * Link with liblembuya.a ('rt staticlib lembuya' writes it to target/staticlib/). Times are in bit times (10 ns at 100 Mbit/s), lengths in bits.
+ * Link with liblembuya.a ('rt staticlib lembuya' writes it to target/staticlib/).
+ * Times are in bit times (10 ns at 100 Mbit/s), lengths in bits.
  */
 #ifndef LEMBUYA_H
 #define LEMBUYA_H
@@ -23,7 +24,8 @@ extern "C" {
 /* Numbers: 0 is done or taken; the others are those of document 01, "Where each no is said". */
 enum {
     LEMBUYA_OK = 0,
-    LEMBUYA_FORM = 1,       /* a line is not the form allowed here, its LF is missing, or the text ends early; a call of no kind in a list */
+    /* a line is not the form allowed here, its LF is missing, or the text ends early; a call of no kind in a list */
+    LEMBUYA_FORM = 1,
     LEMBUYA_FIGURE = 2,     /* T, O or D is out of range */
     LEMBUYA_LIMIT = 3,      /* a limit of the tree is passed, a hub has no port, or the plan has no node */
     LEMBUYA_TIME = 11,      /* t is above 10^15, or before the clock */
@@ -52,8 +54,8 @@ enum {
     LEMBUYA_CALL_STEP = 6
 };
 
-/* Reads the plan at the start of a text. Taken: 0, the plan's tables stand in `plan`, and `told` is nodes, hubs, the place where the events start
- * (byte) and its line number. Refused: its number, `told` is 0, 0, 0 and the line, and `plan` is as it was. */
+/* Reads the plan at the start of a text. Taken: 0, the plan's tables stand in `plan`, and `told` is nodes, hubs, the place where the
+ * events start (byte) and its line number. Refused: its number, `told` is 0, 0, 0 and the line, and `plan` is as it was. */
 uint32_t lembuya_read(const uint8_t *text, size_t length, uint32_t plan[LEMBUYA_PLAN_CELLS], uint64_t told[4]);
 
 /* The cascade's table before any event. It serves any plan. */
@@ -66,19 +68,20 @@ uint32_t lembuya_off(const uint32_t plan[LEMBUYA_PLAN_CELLS], uint32_t cascade[L
 uint32_t lembuya_reserve(const uint32_t plan[LEMBUYA_PLAN_CELLS], uint32_t cascade[LEMBUYA_CASCADE_CELLS], uint64_t t, uint64_t k, uint64_t n, uint64_t b);
 uint32_t lembuya_until(const uint32_t plan[LEMBUYA_PLAN_CELLS], uint32_t cascade[LEMBUYA_CASCADE_CELLS], uint64_t t);
 
-/* A step with bound t handles the due instant if it is strictly before t. Its answer is six numbers: the case (also returned), time, node, class, end
- * and moves; a number that its case doesn't have is 0. */
+/* A step with bound t handles the due instant if it is strictly before t. Its answer is six numbers: the case (also returned), time, node,
+ * class, end and moves; a number that its case doesn't have is 0. */
 uint32_t lembuya_step(const uint32_t plan[LEMBUYA_PLAN_CELLS], uint32_t cascade[LEMBUYA_CASCADE_CELLS], uint64_t t, uint64_t answer[6]);
 
-/* Many calls in one: `calls` has five numbers a call (kind, t, k, n, b; a number that its kind doesn't have is not looked at), and `answers` gets six
- * an answer, as a step's; an event's case is 0 or its row's number. 0, or 1 (`calls` ends within a call or has a call of no kind) or 18 (`answers` is too
- * short), and then nothing is done. Lengths count numbers, not bytes. */
+/* Many calls in one: `calls` has five numbers a call (kind, t, k, n, b; a number that its kind doesn't have is not looked at), and
+ * `answers` gets six an answer, as a step's; an event's case is 0 or its row's number. 0, or 1 (`calls` ends within a call or has a call
+ * of no kind) or 18 (`answers` is too short), and then nothing is done. Lengths count numbers, not bytes. */
 uint32_t lembuya_list(const uint32_t plan[LEMBUYA_PLAN_CELLS], uint32_t cascade[LEMBUYA_CASCADE_CELLS], const uint64_t *calls, size_t calls_length,
                       uint64_t *answers, size_t answers_length);
 
-/* The whole log of a text (plan and events, of which 65,536 bytes are looked at) into a buffer. 0, `end` is its length, and the tables are those behind
- * the last event (a refused plan leaves them as they were); or 18, the log doesn't fit, and nothing is touched: not the buffer, the tables or `end`.
- * 18 * 65536 bytes hold every log (proved: crates/log_spec/proofs/LogLength.antt), and into so many a run is faster: a shorter buffer is measured first. */
+/* The whole log of a text (plan and events, of which 65,536 bytes are looked at) into a buffer. 0, `end` is its length, and the tables are
+ * those behind the last event (a refused plan leaves them as they were); or 18, the log doesn't fit, and nothing is touched: not the
+ * buffer, the tables or `end`. 18 * 65536 bytes hold every log (proved: crates/log_spec/proofs/LogLength.antt), and into so many a run is
+ * faster: a shorter buffer is measured first. */
 uint32_t lembuya_run(const uint8_t *text, size_t length, uint32_t plan[LEMBUYA_PLAN_CELLS], uint32_t cascade[LEMBUYA_CASCADE_CELLS], uint8_t *log,
                      size_t log_length, uint64_t end[1]);
 

@@ -8,7 +8,7 @@ import sys
 
 ROOT = pathlib.Path(__file__).resolve().parent.parent
 WIDEST_COMMENT, LONGEST_CELL, MOST_WORDS = 140, 160, 600
-COMMENT = re.compile(r'^\s*(--|//|#) ?')
+COMMENT = re.compile(r'^\s*(--|//|#|/\*|\*)')
 # The notes of the landings before this was asked for.
 EARLIER = {'A', 'B', 'C', 'D', 'E', 'F', 'request-2', 'request-4', 'request-5', 'request-13'}
 

@@ -1,4 +1,4 @@
-"""Held requests, and requests turned normal at a frame's start."""
+"""Held requests, and requests that become normal at a frame's start."""
 from .case import Cases, example
 
 cases = Cases()
@@ -120,7 +120,7 @@ cases.worked(
 (rest 203023 0)
 ''')
 
-# (e) requests turned normal at a frame's start
+# (e) requests that become normal at a frame's start
 
 cases.worked('turned-normal-given-up', 'the reservation given up: a held request becomes normal, and waits for the high one', example('''
 (reserve 0 1 1 4000)

@@ -11,7 +11,7 @@ ghost use Rattle.rules.specs.Plan.{longest-packet};
 ghost use Rattle.rules.specs.Drawn.{Within};
 ghost use Rattle.rules.specs.Call.{reserve};
 ghost use Rattle.rules.specs.Rows.{row17};
-ghost use Rattle.cells.specs.Layout.{shareOf, shareCode};
+ghost use Rattle.cells.specs.Layout.{half, shareOf, shareCode};
 ghost use Rattle.cells.specs.Decode.{planIn, coreOf};
 ghost use Rattle.cells.specs.Calls.{rowBy};
 ghost use Rattle.admission.specs.Share.{shareRowBy};
@@ -30,13 +30,13 @@ fn share_outside(n: u64, b: u64) -> bool
 pub fn share_code(n: u16, b: u16) -> u32
     ensures { λ r. ⌜ r ≡ shareCode n b ⌝ }
 {
-    n as u32 * 65536 + b as u32
+    n as u32 * cells::HALF + b as u32
 }
 
 // Whether D and all loads, with a new reservation in place of an old one of them, are more than T.
 fn more_than(frame: u32, overhead: u32, interrupt: u32, all: u64, old: u32, new: u32) -> bool
     requires { ⌜ all ≤ 288230376151711744 ⌝ }
-    ensures { λ r. ⌜ r ≡ ltb (frame + old / 65536 * (old % 65536 + overhead)) (interrupt + (all + new / 65536 * (new % 65536 + overhead))) ⌝ }
+    ensures { λ r. ⌜ r ≡ ltb (frame + old / half * (old % half + overhead)) (interrupt + (all + new / half * (new % half + overhead))) ⌝ }
 {
     let out = frames::load(overhead, old);
     let put = frames::load(overhead, new);

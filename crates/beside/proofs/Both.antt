@@ -49,8 +49,8 @@ module _ (F : Bool → Beside) where
         → stateLeft (both F) P (on i q) r s b i ≡ stateLeft (F i) P q r s (b i)
     state-mine i q (refusal n) s b = refl
     state-mine i q (told a) s b =
-        let c = F i .next P s q (b i) in
-        watching-at i (F i .effect q a) s (putIn F i c b) ∙ ap (watching (F i) P (F i .effect q a) s) (put-same i c b)
+        let w = watching (both F) P (F i .effect q a) s b in
+        put-same i (F i .next P s q (w i)) w ∙ ap (F i .next P s q) (watching-at i (F i .effect q a) s b)
 
     -- a call on the other table
     state-others : (i j : Bool) → ((c : F j .State) (b : States F) → putIn F j c b i ≡ b i)
@@ -58,8 +58,8 @@ module _ (F : Bool → Beside) where
         → stateLeft (both F) P (on j q) r s b i ≡ watching (F i) P (effectOf (F j) q r) s (b i)
     state-others i j apart q (refusal n) s b = refl
     state-others i j apart q (told a) s b =
-        let c = F j .next P s q (b j) in
-        watching-at i (F j .effect q a) s (putIn F j c b) ∙ ap (watching (F i) P (F j .effect q a) s) (apart c b)
+        let w = watching (both F) P (F j .effect q a) s b in
+        apart (F j .next P s q (w j)) w ∙ watching-at i (F j .effect q a) s b
 
     mine : (i : Bool) (q : F i .Ask) (r : Reply (F i .Told q)) {ys : List (Item (F i))} (s z : List ℕ) (b c : States F)
         → AsidePromise (both F) P (on i q) s b r z c → Extended (F i) P ys (b i) s → Extended (F i) P (aside q r ∷ ys) (c i) z

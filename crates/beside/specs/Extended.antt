@@ -20,10 +20,10 @@ module _ (B : Beside) (P : List ℕ) where
   watching stays s b = b
   watching (comes-to t) s b = B .watch P s (entry (until t) taken) b
 
-  -- what stands beside the hub after a call beside it
+  -- What stands beside the hub after a call beside it. The clock moves first and then the call makes its change, as in an event of the hub.
   abbrev pub stateLeft : (q : B .Ask) → Reply (B .Told q) → List ℕ → B .State → B .State
   stateLeft q (refusal n) s b = b
-  stateLeft q (told a) s b = watching (B .effect q a) s (B .next P s q b)
+  stateLeft q (told a) s b = B .next P s q (watching (B .effect q a) s b)
 
   -- What a call beside the hub promises for every content: s and b are the hub's cells and what stands beside it at entry, r is the answer,
   -- z and c are both at exit.

@@ -11,7 +11,7 @@ use Rattle.beside.specs.Beside.{Effect, stays, comes-to, Beside, Item, o
 
 -- a list less the entries that are marked
 unfoldable pub less : List Bool → List Entry → List Entry
-less [] past = []
+less [] past = past
 less (mark ∷ marks) [] = []
 less (true ∷ marks) (e ∷ past) = less marks past
 less (false ∷ marks) (e ∷ past) = e ∷ less marks past

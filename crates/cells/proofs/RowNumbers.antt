@@ -11,16 +11,18 @@ use Rattle.rules.specs.Plan.{Plan}
 use Rattle.rules.specs.Call.{Call, ask, off, reserve, until, step}
 use Rattle.rules.specs.Rows.{Verdict, accept, refuse, firstRow}
 use Rattle.rules.proofs.Core.RefusalNumbers.{CallNumber, Numbered, first-has}
-use Rattle.cells.specs.Decode.{planIn}
+use Rattle.rules.proofs.Core.RefusalNumbers as rules
+use Rattle.cells.specs.Decode.{planIn, coreOf}
 use Rattle.cells.specs.Calls.{rowsBy, numberOf, rowBy}
 
+-- row 12 is tested otherwise there, and its number is the same: so are all numbers of both lists
 rows-numbered : (p : Plan) (s : List ℕ) (call : Call) → Numbered (rowsBy p s call)
 unfolding rowsBy
-rows-numbered p s (ask c t k b) = omega arith
-rows-numbered p s (off t k) = omega arith
-rows-numbered p s (reserve t k n b) = omega arith
-rows-numbered p s (until t) = omega arith
-rows-numbered p s (step t) = omega arith
+rows-numbered p s (ask c t k b) = rules.rows-numbered p (coreOf p s) (ask c t k b)
+rows-numbered p s (off t k) = rules.rows-numbered p (coreOf p s) (off t k)
+rows-numbered p s (reserve t k n b) = rules.rows-numbered p (coreOf p s) (reserve t k n b)
+rows-numbered p s (until t) = rules.rows-numbered p (coreOf p s) (until t)
+rows-numbered p s (step t) = rules.rows-numbered p (coreOf p s) (step t)
 
 module _ (P s : List ℕ) (call : Call) where
   abbrev verdict : Verdict

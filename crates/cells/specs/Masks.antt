@@ -34,7 +34,7 @@ module _ (P : List ℕ) (isHigh : Bool) where
   mend (suc levels) g q b s =
       let mask = maskWith (getD s (maskCell isHigh g) 0) q b in
       ifHub g
-      (mend levels (getD P (plan.hubCell g 1) 0) (getD P (plan.hubCell g 2) 0) (anyPort (shows mask)) (set s (maskCell isHigh g) mask))
+      (mend levels (getD P (plan.parentCell g) 0) (getD P (plan.placeCell g) 0) (anyPort (shows mask)) (set s (maskCell isHigh g) mask))
       s
 
 -- both classes' bits of node k, by what its cells say

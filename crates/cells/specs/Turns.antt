@@ -53,7 +53,7 @@ module _ (P : List ℕ) (isHigh : Bool) where
   unfoldable pub handUpBy : ℕ → List ℕ → Looked
   handUpBy g s =
       if eqb g 1 then record { look = Round; cells = set s (pointerCell isHigh 1) (unmarkedCode 1) }
-      else upBy isHigh (getD P (plan.hubCell g 1) 0) (getD P (plan.hubCell g 2) 0) s
+      else upBy isHigh (getD P (plan.parentCell g) 0) (getD P (plan.placeCell g) 0) s
 
   unfoldable pub foundBy : ℕ → Found → List ℕ → Looked
   foundBy g (found.Port q) s = takeBy isHigh g q (plan.portOf (getD P (plan.portCell g q) 0)) s
@@ -79,7 +79,7 @@ module _ (P : List ℕ) (isHigh : Bool) where
 
 -- moves from hub g up to the root
 abbrev pub climbBy : List ℕ → ℕ → ℕ
-climbBy P g = ifHub g (getD P (plan.hubCell g 3) 0 - 1) 0
+climbBy P g = ifHub g (getD P (plan.levelCell g) 0 - 1) 0
 
 -- rule 2, one hub g of the holder's line, which goes on at its port q: t
 -- stays the nearest hub if g's pointer x is marked and there; else it is g
@@ -91,7 +91,7 @@ unfoldable pub nearestBy : List ℕ → Bool → ℕ → ℕ → ℕ → ℕ →
 nearestBy P isHigh zero g q t s = 1
 nearestBy P isHigh (suc levels) g q t s =
     let u = nearerBy (getD s (pointerCell isHigh g) 0) g q t in
-    ifHub g (if eqb g 1 then u else nearestBy P isHigh levels (getD P (plan.hubCell g 1) 0) (getD P (plan.hubCell g 2) 0) u s) 1
+    ifHub g (if eqb g 1 then u else nearestBy P isHigh levels (getD P (plan.parentCell g) 0) (getD P (plan.placeCell g) 0) u s) 1
 
 -- where control turns, from the holder up; what its own pointer is doesn't
 -- matter, since the nearest hub so far is the holder either way (0 is no port)

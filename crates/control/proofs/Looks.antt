@@ -93,7 +93,7 @@ module _ (P : List ℕ) (high : Bool) (g : ℕ) (s : List ℕ) where
   unfolding handUpBy
   root-round e = simp (eq-eqb _ _ e)
 
-  pub handed-up : (g ≡ 1 → ⊥) → handUpBy P high g s ≡ upBy high (getD P (plan.hubCell g 1) 0) (getD P (plan.hubCell g 2) 0) s
+  pub handed-up : (g ≡ 1 → ⊥) → handUpBy P high g s ≡ upBy high (getD P (plan.parentCell g) 0) (getD P (plan.placeCell g) 0) s
   unfolding handUpBy
   handed-up lower = simp (ne-eqb _ _ lower)
 

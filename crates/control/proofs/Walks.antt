@@ -11,7 +11,7 @@ use Rattle.rules.specs.Control.{most-looks}
 use Rattle.ports.specs.Mask.{digit}
 use Rattle.cells.specs.declared.Look.the-variants.{Node, Pass, Round, Stop}
 use Rattle.cells.specs.declared.Turn.{Turn}
-use Rattle.plan_tree.specs.Tables.{hubCell}
+use Rattle.plan_tree.specs.Tables.{levelCell, parentCell, placeCell}
 use Rattle.cells.specs.Layout.{holder-cell, class-cell, pointerCell, markedCode}
 use Rattle.cells.specs.Turns.{Turned, lookBy, afterLook, walkBy, climbBy, nearerBy, nearestBy, turningBy, walked, settled, chooseBy}
 
@@ -92,7 +92,7 @@ module _ (P : List ℕ) (g : ℕ) where
   pub climb-beyond : 1 ≤ g → most-hubs < g → 0 ≡ climbBy P g
   climb-beyond l h = simp (le-ltb _ _ l, lt-ltb _ _ h)
 
-  pub climb-levels : 1 ≤ g → g ≤ most-hubs → getD P (hubCell g 3) 0 - 1 ≡ climbBy P g
+  pub climb-levels : 1 ≤ g → g ≤ most-hubs → getD P (levelCell g) 0 - 1 ≡ climbBy P g
   climb-levels l h = simp (le-ltb _ _ l, le-ltb _ _ h)
 
 -- a turn by rule 2 that is settled is the one chosen
@@ -140,10 +140,10 @@ module _ (P : List ℕ) (high : Bool) (levels g q t : ℕ) (s : List ℕ) where
       line-ends r = rw (near, e, one-level) (simp (le-ltb _ _ l, le-ltb _ _ h, eq-eqb _ _ r))
 
       pub line-goes-on : (g ≡ 1 → ⊥)
-          → nearestBy P high (levels - 1) (getD P (hubCell g 1) 0) (getD P (hubCell g 2) 0) u s ≡ nearestBy P high levels g q t s
+          → nearestBy P high (levels - 1) (getD P (parentCell g) 0) (getD P (placeCell g) 0) u s ≡ nearestBy P high levels g q t s
       unfolding nearestBy
       line-goes-on r = rw (near, e) (sym (ap (λ (n : ℕ). nearestBy P high n g q t s) one-level ∙ unrolled))
         where
           unrolled : nearestBy P high (suc (levels - 1)) g q t s
-              ≡ nearestBy P high (levels - 1) (getD P (hubCell g 1) 0) (getD P (hubCell g 2) 0) (nearerBy (getD s (pointerCell high g) 0) g q t) s
+              ≡ nearestBy P high (levels - 1) (getD P (parentCell g) 0) (getD P (placeCell g) 0) (nearerBy (getD s (pointerCell high g) 0) g q t) s
           unrolled = simp (le-ltb _ _ l, le-ltb _ _ h, ne-eqb _ _ r)

@@ -69,7 +69,7 @@ fn take(p: &Plan, s: &mut Cascade, high: bool, g: u32, q: u32) -> Look
     let x = p[plan_tree::HUBS
         + (g as usize - 1) * plan_tree::PER_HUB
         + (plan_tree::PORT + q as usize)];
-    if x == 0 {
+    if x == plan_tree::EMPTY {
         return Look::Stop;
     }
     if x <= plan_tree::HUB_CODE {

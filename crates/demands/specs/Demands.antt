@@ -11,6 +11,7 @@
 --
 -- where P and s are the cells at entry, r is the answer and z the cascade's cells at exit. Below:
 -- what follows for every plan text that is taken and every list of such calls from its fresh table.
+-- Of lists that also hold calls beside the hub the same is said in `beside`, specs/SameHub.antt.
 use Prim.Native.Nat.{ℕ, _-_, _*_, _≤_}
 use mathlib.Core.Path.{_≡_}
 use mathlib.Core.Bool.{true}

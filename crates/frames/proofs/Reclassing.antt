@@ -16,12 +16,12 @@ module _ (share x : ℕ) where
   pub stays-normal : 65536 ≤ x → x < 131072 → 65536 + x % 65536 ≡ becomes
   stays-normal h l = simp (le-ltb x 65536 h, lt-ltb x 131072 l)
 
-  pub turns-unreserved : 131072 ≤ x → share < 65536 → 65536 + x % 65536 ≡ becomes
-  turns-unreserved h r =
+  pub unreserved-normal : 131072 ≤ x → share < 65536 → 65536 + x % 65536 ≡ becomes
+  unreserved-normal h r =
       simp (le-ltb x 65536 (omega arith), le-ltb x 131072 h, eq-eqb (share / 65536) 0 (omega arith))
 
-  pub turns-longer : 131072 ≤ x → 65536 ≤ share → share % 65536 < x % 65536 → 65536 + x % 65536 ≡ becomes
-  turns-longer h r l =
+  pub longer-normal : 131072 ≤ x → 65536 ≤ share → share % 65536 < x % 65536 → 65536 + x % 65536 ≡ becomes
+  longer-normal h r l =
       simp
       (le-ltb x 65536 (omega arith), le-ltb x 131072 h, ne-eqb (share / 65536) 0 (λ e. omega arith), lt-ltb (share % 65536) (x % 65536) l)
 

@@ -10,7 +10,7 @@ use borrow.Author.Tests.{le-leb}
 use Rattle.rules.specs.Choice.{sum}
 use Rattle.rules.specs.Rows.{load, loads}
 use Rattle.rules.proofs.Laws.Passes.{sum-same}
-use Rattle.plan.specs.Tables.{planOf}
+use Rattle.plan.specs.Tables.{overhead-cell, planOf}
 use Rattle.cells.specs.Layout.{half, shareOf, latestCell}
 use Rattle.cells.specs.Decode.{planIn, coreOf}
 
@@ -40,7 +40,7 @@ module _ (P s : List ℕ) (n : ℕ) where
   pub one-load-onto :
       (others own r : ℕ) →
       (n ≡ 0 → ⊥) →
-      own ≡ getD s (latestCell n) 0 / half * (getD s (latestCell n) 0 % half + getD P 1 0) →
+      own ≡ getD s (latestCell n) 0 / half * (getD s (latestCell n) 0 % half + getD P overhead-cell 0) →
       r ≡ others + own + sum (n - 1) (cellLoad P s) →
       r ≡ others + sum n (cellLoad P s)
   unfolding planOf

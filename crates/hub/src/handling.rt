@@ -19,14 +19,14 @@ fn bits_at(s: &Cascade, k: u32) -> u32
     if k < 1 {
         return 0;
     }
-    if 256 < k {
+    if cells::MOST_NODES < k {
         return 0;
     }
     let x = s[cells::NODES + (k as usize - 1) * cells::PER_NODE + cells::REQUEST];
-    if x < 65536 {
+    if x < cells::NORMAL {
         return 0;
     }
-    x % 65536
+    x % cells::HALF
 }
 
 // The end of a packet that starts at d.

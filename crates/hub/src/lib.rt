@@ -8,23 +8,24 @@ use plan_tree::Plan;
 ghost use mathlib.Core.Path.{_≡_};
 ghost use Prim.Native.Nat.{_≤_, _<_};
 ghost use lib.ListN.{set};
+ghost use Rattle.rules.specs.Plan.{most-nodes};
 ghost use Rattle.rules.specs.Call.{ask, off, reserve, until, normal, high};
 ghost use Rattle.rules.specs.Core.{standing};
 ghost use Rattle.event.specs.Call.{callOf};
-ghost use Rattle.cells.specs.Layout.{classOf, latestCell, requestCode};
+ghost use Rattle.cells.specs.Layout.{half, classOf, latestCell, requestCode};
 ghost use Rattle.cells.specs.Calls.{EventPromise, StepPromise};
 
 mod handling;
 
 // The cell of a request.
 fn request_code(high: bool, b: u64) -> u32
-    requires { ⌜ b < 65536 ⌝ }
+    requires { ⌜ b < half ⌝ }
     ensures { λ r. ⌜ r ≡ requestCode (standing (classOf high) b) ⌝ }
 {
     if high {
-        return 131072 + b as u32;
+        return cells::HIGH + b as u32;
     }
-    65536 + b as u32
+    cells::NORMAL + b as u32
 }
 
 // A request of either class: 0, or the number of the row that refuses it.
@@ -69,7 +70,7 @@ pub fn off(p: &Plan, s: &mut Cascade, t: u64, k: u64) -> u32
 
 // Node k's latest accepted reservation becomes a cell.
 fn put_latest(s: &mut Cascade, k: u32, share: u32)
-    requires { ⌜ (1 ≤ k) × (k ≤ 256) ⌝ }
+    requires { ⌜ (1 ≤ k) × (k ≤ most-nodes) ⌝ }
     ensures { λ _. ⌜ now (s .exit) ≡ set (now (s .entry)) (latestCell k) share ⌝ }
 {
     s[cells::NODES + (k as usize - 1) * cells::PER_NODE + cells::LATEST] = share;

@@ -14,7 +14,7 @@ ghost use Rattle.instants.specs.Bound.{ifBefore, dueBefore};
 // The root is hub 1.
 const NORMAL_MASK: usize = cells::HUBS + cells::MASK;
 
-const HIGH_MASK: usize = cells::HUBS + cells::MASK + 1;
+const HIGH_MASK: usize = cells::HUBS + cells::HIGH_MASK;
 
 // Whether the root sees a request that counts.
 fn some_counts(s: &Cascade) -> bool

@@ -51,7 +51,7 @@ pub const LEVEL: usize = 3;
 
 pub const PORT: usize = 3;
 
-// A port's cell is 0 where it is empty, a node's number, or HUB_CODE and a hub's number.
+// A port's cell is EMPTY, a node's number, or HUB_CODE and a hub's number.
 pub const EMPTY: u32 = 0;
 
 pub const HUB_CODE: u32 = 256;

@@ -13,7 +13,7 @@ use Rattle.rules.specs.Plan.{Plan}
 use Rattle.rules.specs.Drawn.{Within}
 use Rattle.rules.specs.Core.{countsIn}
 use Rattle.rules.proofs.Laws.Passes.{Which, which, yes′, no′, and-both}
-use Rattle.cells.specs.Layout.{cells, standing-cell, holder-cell, class-cell, nodeCell, maskCell, pointerCell, requestCell}
+use Rattle.cells.specs.Layout.{cells, standing-cell, holder-cell, class-cell, nodeCell, maskCell, pointerCell, requestCell, forceCell, grantedCell, latestCell}
 use Rattle.cells.specs.Decode.{isNode, isHub, coreOf}
 use Rattle.cells.specs.Masks.{countsAt, stands}
 use Rattle.refinement.specs.Kept.{countsOf, MasksRight, RightBut, Pointing, Kept, standingIn, Mended}
@@ -51,7 +51,7 @@ counts-cells p false s k = go (which (isNode p k))
 
 -- i is none of node k's cells
 abbrev pub Elsewhere : ℕ → ℕ → Type 0
-Elsewhere k i = (i ≡ nodeCell k 0 → ⊥) × (i ≡ nodeCell k 1 → ⊥) × (i ≡ nodeCell k 2 → ⊥) × (i ≡ nodeCell k 3 → ⊥)
+Elsewhere k i = (i ≡ requestCell k → ⊥) × (i ≡ forceCell k → ⊥) × (i ≡ latestCell k → ⊥) × (i ≡ grantedCell k → ⊥)
 
 -- r is s but for cells of node k and the number of standing requests
 pub record Change (k : ℕ) (s r : List ℕ) : Type 0 where

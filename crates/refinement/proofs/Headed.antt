@@ -13,7 +13,7 @@ use Rattle.rules.specs.Drawn.{Within}
 use Rattle.rules.specs.Core.{Core, Line, none, nothing-reserved, resting, busy, countsIn}
 use Rattle.rules.specs.Control.{atPort}
 use Rattle.ports.specs.Mask.{digit}
-use Rattle.cells.specs.Layout.{cells, two-32, timeAt, putTime, clock-cell, end-cell, busy-cell, holder-cell, class-cell, standing-cell, nodeCell, requestCell, maskCell, pointerCell, classOf, requestOf, shareOf, pointerOf}
+use Rattle.cells.specs.Layout.{cells, two-32, timeAt, putTime, clock-cell, end-cell, busy-cell, holder-cell, class-cell, standing-cell, requestCell, maskCell, pointerCell, classOf, requestOf, shareOf, pointerOf, forceCell, grantedCell, latestCell}
 use Rattle.cells.specs.Decode.{isNode, isHub, isClassHigh, lineOf, coreOf, controlOf}
 use Rattle.cells.specs.Masks.{stands}
 use Rattle.cells.specs.Calls as calls
@@ -44,10 +44,10 @@ module _ (p : Plan) (s r : List ℕ) (h : Head s r) where
       record {
         clock = timeAt r clock-cell;
         line = lineOf r;
-        request = λ k. (if isNode p k then requestOf (h .same (nodeCell k 0) (omega arith) i) else none);
-        force = λ k. (if isNode p k then shareOf (h .same (nodeCell k 1) (omega arith) i) else nothing-reserved);
-        latest = λ k. (if isNode p k then shareOf (h .same (nodeCell k 2) (omega arith) i) else nothing-reserved);
-        granted = λ k. (if isNode p k then h .same (nodeCell k 3) (omega arith) i else 0);
+        request = λ k. (if isNode p k then requestOf (h .same (requestCell k) (omega arith) i) else none);
+        force = λ k. (if isNode p k then shareOf (h .same (forceCell k) (omega arith) i) else nothing-reserved);
+        latest = λ k. (if isNode p k then shareOf (h .same (latestCell k) (omega arith) i) else nothing-reserved);
+        granted = λ k. (if isNode p k then h .same (grantedCell k) (omega arith) i else 0);
       }
 
   -- what counts depends on neither

@@ -33,9 +33,9 @@ module _ (P : List ℕ) (isHigh : Bool) where
   mend-size (suc levels) g q b s =
       let mask = maskWith (getD s (maskCell isHigh g) 0) q b in
       ifHub-holds (λ r. length r ≡ length s) g
-      (mend P isHigh levels (getD P (plan.hubCell g 1) 0) (getD P (plan.hubCell g 2) 0) (anyPort (shows mask)) (set s (maskCell isHigh g) mask)) s
+      (mend P isHigh levels (getD P (plan.parentCell g) 0) (getD P (plan.placeCell g) 0) (anyPort (shows mask)) (set s (maskCell isHigh g) mask)) s
       (λ w.
-      mend-size levels (getD P (plan.hubCell g 1) 0) (getD P (plan.hubCell g 2) 0) (anyPort (shows mask)) (set s (maskCell isHigh g) mask)
+      mend-size levels (getD P (plan.parentCell g) 0) (getD P (plan.placeCell g) 0) (anyPort (shows mask)) (set s (maskCell isHigh g) mask)
       ∙ length-set s (maskCell isHigh g) mask)
       refl
 
@@ -47,9 +47,9 @@ module _ (P : List ℕ) (isHigh : Bool) where
   mend-keeps i other (suc levels) g q b s =
       let mask = maskWith (getD s (maskCell isHigh g) 0) q b in
       ifHub-holds (λ r. getD r i 0 ≡ getD s i 0) g
-      (mend P isHigh levels (getD P (plan.hubCell g 1) 0) (getD P (plan.hubCell g 2) 0) (anyPort (shows mask)) (set s (maskCell isHigh g) mask)) s
+      (mend P isHigh levels (getD P (plan.parentCell g) 0) (getD P (plan.placeCell g) 0) (anyPort (shows mask)) (set s (maskCell isHigh g) mask)) s
       (λ w.
-      mend-keeps i other levels (getD P (plan.hubCell g 1) 0) (getD P (plan.hubCell g 2) 0) (anyPort (shows mask)) (set s (maskCell isHigh g) mask)
+      mend-keeps i other levels (getD P (plan.parentCell g) 0) (getD P (plan.placeCell g) 0) (anyPort (shows mask)) (set s (maskCell isHigh g) mask)
       ∙ getD-set-other s (maskCell isHigh g) i mask 0 (other g w))
       refl
 

@@ -7,7 +7,7 @@ use lib.ListN.{getD, getD-replicate}
 use lib.Seq.{getD-set-other}
 use Rattle.rules.specs.Plan.{Plan, node}
 use Rattle.rules.specs.Drawn.{Drawn, Within}
-use Rattle.plan_tree.specs.Tables.{cells, hubCell, noTable, putRoot, hubOfNode, portOfNode}
+use Rattle.plan_tree.specs.Tables.{cells, noTable, putRoot, hubOfNode, portOfNode, levelCell, parentCell}
 use Rattle.plan.specs.Tables.{planOf}
 use Rattle.plan.specs.Reading.{Figures, reading}
 use Rattle.plan_theory.specs.Tree.{Hub, filled, tablesOf}
@@ -24,24 +24,24 @@ use Rattle.cells.specs.Decode.{bounded, planIn}
 use Rattle.refinement.specs.Kept.{Ready}
 
 -- nothing is stored in the cell of the root's parent
-root-none : cell (putRoot noTable) (hubCell 1 1) ≡ 0
+root-none : cell (putRoot noTable) (parentCell 1) ≡ 0
 unfolding putRoot
 root-none =
-    getD-set-other noTable (hubCell 1 3) (hubCell 1 1) 1 0 (λ e. omega arith) ∙ getD-replicate cells (hubCell 1 1) 0 0 (omega arith)
+    getD-set-other noTable (levelCell 1) (parentCell 1) 1 0 (λ e. omega arith) ∙ getD-replicate cells (parentCell 1) 0 0 (omega arith)
 
-tree-root : (fig : Figures) (x : Hub) → HubRoom x 0 1 0 1 → cell (tablesOf fig x) (hubCell 1 1) ≡ 0
+tree-root : (fig : Figures) (x : Hub) → HubRoom x 0 1 0 1 → cell (tablesOf fig x) (parentCell 1) ≡ 0
 unfolding tablesOf
 tree-root fig x lim =
-    figures-other (filled x .tables) (fig .frame) (fig .overhead) (fig .interrupt) (filled x .nodes) (filled x .hubs) (hubCell 1 1) (omega arith)
-    ∙ kept-hub x 1 0 1 (record { nodes = 0; hubs = 1; tables = putRoot noTable }) (hubCell 1 1) (root-room x lim)
+    figures-other (filled x .tables) (fig .frame) (fig .overhead) (fig .interrupt) (filled x .nodes) (filled x .hubs) (parentCell 1) (omega arith)
+    ∙ kept-hub x 1 0 1 (record { nodes = 0; hubs = 1; tables = putRoot noTable }) (parentCell 1) (root-room x lim)
     (hub-later 0 1 1 1 (omega arith) (omega arith) (omega arith) (omega arith)) (head-own 1 0 1 (omega arith) (omega arith))
     ∙ root-none
 
-pub taken-root : (text : List ℕ) (nodes hubs at line : ℕ) → TakenAs text nodes hubs at line → getD (reading text .tables) (hubCell 1 1) 0 ≡ 0
+pub taken-root : (text : List ℕ) (nodes hubs at line : ℕ) → TakenAs text nodes hubs at line → getD (reading text .tables) (parentCell 1) 0 ≡ 0
 taken-root text nodes hubs at line t =
     let d = taken-drawn text nodes hubs at line t in
     let o = taken-of text nodes hubs at line t d in
-    ap (λ (s : List ℕ). cell s (hubCell 1 1)) (o .sameTables) ∙ tree-root (d .fig) (d .tree) (limits-room (d .tree) (d .within) .0)
+    ap (λ (s : List ℕ). cell s (parentCell 1)) (o .sameTables) ∙ tree-root (d .fig) (d .tree) (limits-room (d .tree) (d .within) .0)
 
 -- a taken plan has no more nodes than the table has cells for
 bounded-same : (p : Plan) → p .nodes ≤ 256 → bounded p ≡ p

@@ -9,7 +9,7 @@ use Rattle.rules.specs.Choice.{if_then_else_}
 use Rattle.rules.specs.Plan.{Plan}
 use Rattle.rules.specs.Core.{Core, none, nothing-reserved, resting, busy, countsIn}
 use Rattle.rules.specs.Control.{atPort}
-use Rattle.cells.specs.Layout.{two-32, timeAt, clock-cell, end-cell, busy-cell, holder-cell, class-cell, standing-cell, nodeCell, pointerCell, classOf, requestOf, shareOf, pointerOf}
+use Rattle.cells.specs.Layout.{two-32, timeAt, clock-cell, end-cell, busy-cell, holder-cell, class-cell, standing-cell, nodeCell, pointerCell, classOf, requestOf, shareOf, pointerOf, forceCell, grantedCell, latestCell, requestCell}
 use Rattle.cells.specs.Decode.{isNode, isHub, isClassHigh, lineOf, coreOf, controlOf}
 use Rattle.refinement.specs.Kept.{NoMask, SameButMasks, countsOf}
 
@@ -57,10 +57,10 @@ core-same p s r same =
     λ i. record {
       clock = time-same s r same clock-cell (omega arith) i;
       line = line-same s r same i;
-      request = λ k. (if isNode p k then requestOf (same (nodeCell k 0) (node-no-mask k 0) i) else none);
-      force = λ k. (if isNode p k then shareOf (same (nodeCell k 1) (node-no-mask k 1) i) else nothing-reserved);
-      latest = λ k. (if isNode p k then shareOf (same (nodeCell k 2) (node-no-mask k 2) i) else nothing-reserved);
-      granted = λ k. (if isNode p k then same (nodeCell k 3) (node-no-mask k 3) i else 0);
+      request = λ k. (if isNode p k then requestOf (same (requestCell k) (node-no-mask k 0) i) else none);
+      force = λ k. (if isNode p k then shareOf (same (forceCell k) (node-no-mask k 1) i) else nothing-reserved);
+      latest = λ k. (if isNode p k then shareOf (same (latestCell k) (node-no-mask k 2) i) else nothing-reserved);
+      granted = λ k. (if isNode p k then same (grantedCell k) (node-no-mask k 3) i else 0);
     }
 
 pub counts-same : (p : Plan) (isHigh : Bool) (s r : List ℕ) → SameButMasks s r → countsOf p isHigh r ≡ countsOf p isHigh s

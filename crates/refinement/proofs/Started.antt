@@ -14,7 +14,7 @@ use Rattle.rules.specs.Call.{normal, high}
 use Rattle.rules.specs.Core.{Core, Request, none, standing, Share, nothing-reserved, isClass, reclassed, frameStart, advance}
 use Rattle.rules.proofs.Laws.Passes.{Which, which, yes′, no′, put-same, put-other, sum-same}
 use Rattle.ports.specs.Mask.{digit}
-use Rattle.cells.specs.Layout.{standing-cell, nodeCell, requestCell, forceCell, latestCell, grantedCell, requestOf, requestCode, shareOf}
+use Rattle.cells.specs.Layout.{standing-cell, requestCell, forceCell, latestCell, grantedCell, requestOf, requestCode, shareOf}
 use Rattle.cells.specs.Decode.{planIn, isNode, coreOf, controlOf}
 use Rattle.cells.specs.Masks.{stands, countsBy, countsAt}
 use Rattle.cells.specs.Frames.{startCells, startNode, startNodes, newFrame, advanceBy}
@@ -93,7 +93,7 @@ module _ (P : List ℕ) (R : Ready P) (s : List ℕ) (K : Kept (planIn P) s) (k 
             ∙ getD-set-other s (requestCell k) i new 0 (e .0);
       }
 
-  long : nodeCell k 3 < length s
+  long : grantedCell k < length s
   long = omega (arith, K .size, w .up, R .drawn .few-nodes)
 
   start-request : getD (startCells k s) (requestCell k) 0 ≡ new

@@ -23,7 +23,7 @@ use Rattle.cells.specs.Masks.{stands}
 -- has no parent, and a node's own cells name the one port that holds it
 pub record Ready (P : List ℕ) : Type 0 where
   pub drawn : Drawn (planIn P)
-  pub root-parent : getD P (plan.hubCell 1 1) 0 ≡ 0
+  pub root-parent : getD P (plan.parentCell 1) 0 ≡ 0
   pub node-port : (k : ℕ) → Within (planIn P .nodes) k → Holds (planIn P) (node k) (hubOfNode P k) (portOfNode P k)
   pub one-port : (k g q : ℕ) → Holds (planIn P) (node k) g q → (hubOfNode P k ≡ g) × (portOfNode P k ≡ q)
 

@@ -28,7 +28,7 @@ abbrev put : ℕ → ℕ → Bool → List ℕ → List ℕ
 put g q b s = set s (maskCell false g) (mask g q b s)
 
 abbrev above : List ℕ → Bool → ℕ → ℕ → Bool → List ℕ → List ℕ
-above P isHigh n g b s = mend P isHigh n (getD P (plan.hubCell g 1) 0) (getD P (plan.hubCell g 2) 0) b s
+above P isHigh n g b s = mend P isHigh n (getD P (plan.parentCell g) 0) (getD P (plan.placeCell g) 0) b s
 
 module _ (P : List ℕ) where
   -- a high mask is left as it is
@@ -86,7 +86,7 @@ module _ (P : List ℕ) where
   pub both-up : (levels g q : ℕ) (normal high : Bool) (s : List ℕ) (n h : ℕ) (upN upH : Bool) (s₁ : List ℕ) → (levels ≡ 0 → ⊥) → 1 ≤ g → g ≤ most-hubs
       → n ≡ maskWith (getD s (maskCell false g) 0) q normal → h ≡ maskWith (getD s (maskCell true g) 0) q high
       → upN ≡ anyPort (shows n) → upH ≡ anyPort (shows h)
-      → s₁ ≡ both (levels - 1) (getD P (plan.hubCell g 1) 0) (getD P (plan.hubCell g 2) 0) upN upH (set (set s (maskCell false g) n) (maskCell true g) h)
+      → s₁ ≡ both (levels - 1) (getD P (plan.parentCell g) 0) (getD P (plan.placeCell g) 0) upN upH (set (set s (maskCell false g) n) (maskCell true g) h)
       → s₁ ≡ both levels g q normal high s
   both-up levels g q normal high s n h upN upH s₁ some l u en eh fn fh i =
       let low = above P false (levels - 1) g upN in

@@ -32,7 +32,7 @@ module _ (P : List ℕ) (isHigh : Bool) where
   -- s₁ is what the call for the parent leaves
   pub one-up : (levels g q : ℕ) (b : Bool) (s : List ℕ) (mask : ℕ) (up : Bool) (s₁ : List ℕ) → (levels ≡ 0 → ⊥) → 1 ≤ g → g ≤ most-hubs
       → mask ≡ maskWith (getD s (maskCell isHigh g) 0) q b → up ≡ anyPort (shows mask)
-      → s₁ ≡ mend P isHigh (levels - 1) (getD P (plan.hubCell g 1) 0) (getD P (plan.hubCell g 2) 0) up (set s (maskCell isHigh g) mask)
+      → s₁ ≡ mend P isHigh (levels - 1) (getD P (plan.parentCell g) 0) (getD P (plan.placeCell g) 0) up (set s (maskCell isHigh g) mask)
       → s₁ ≡ mend P isHigh levels g q b s
   unfolding mend
   one-up zero g q b s mask up s₁ some l h e f i = absurd (some refl)

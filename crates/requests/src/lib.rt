@@ -1,4 +1,4 @@
-// The cascade's table: times, requests, and the masks that a change at a node mends from its hub up to the root.
+// Requests in the cascade's table, its times, and the masks that a change at a node mends from its hub up to the root.
 // No public function has a `requires`: each says the whole table that it leaves, for every content, by a definition of `cells`.
 use cells::Cascade;
 use plan_tree::Plan;

@@ -93,10 +93,10 @@ fn unreserved(p: &Plan, s: &Cascade, high: bool, t: u64, k: u32, b: u64) -> bool
 {
     if high {
         let share = share_at(p, s, t, k);
-        if share < 65536 {
+        if share < cells::HALF {
             return true;
         }
-        return ((share % 65536) as u64) < b;
+        return ((share % cells::HALF) as u64) < b;
     }
     false
 }

@@ -1,4 +1,4 @@
--- The laws that the functions' proofs cite. Again and Lent serve the walk of `event_lines`.
+-- The laws that the functions' proofs cite. Again and Lent serve the walk of `events`.
 mod WholeLaws
 mod TwoPasses
 mod PassLaws

@@ -40,7 +40,7 @@ fn behind_line(ended: bool, put: Put) -> Went
     }
 }
 
-// One pass of the run: a line, and how it goes on.
+// A line, and how the run goes on behind it.
 fn proceed(
     p: &Plan,
     s: &mut Cascade,

@@ -31,26 +31,11 @@ impl Tables {
     }
 }
 
-/// A single call of the archive.
-#[inline(always)]
-pub fn single(plan: &ffi::Plan, cascade: &mut ffi::Cascade, call: Call, six: &mut [u64; 6]) -> u32 {
-    unsafe {
-        match call {
-            Call::Normal { t, k, b } => ffi::lembuya_normal(plan, cascade, t, k, b),
-            Call::High { t, k, b } => ffi::lembuya_high(plan, cascade, t, k, b),
-            Call::Off { t, k } => ffi::lembuya_off(plan, cascade, t, k),
-            Call::Reserve { t, k, n, b } => ffi::lembuya_reserve(plan, cascade, t, k, n, b),
-            Call::Until { t } => ffi::lembuya_until(plan, cascade, t),
-            Call::Step { t } => ffi::lembuya_step(plan, cascade, t, six),
-        }
-    }
-}
-
 impl Calls for Tables {
     #[inline]
     fn call(&mut self, call: Call) -> Answer {
         let mut six = [0; 6];
-        let number = single(&self.plan, &mut self.cascade, call, &mut six);
+        let number = archive::number_of(&self.plan, &mut self.cascade, call, &mut six);
         six[0] = u64::from(number);
         archive::answer(call, six).expect("an answer")
     }
@@ -76,7 +61,7 @@ pub fn time_load(plan: &Plan, load: &Load) -> [f64; 5] {
     let mut six = [0; 6];
     let start = Instant::now();
     for &call in &load.timed {
-        black_box(single(&tables.plan, &mut tables.cascade, call, &mut six));
+        black_box(archive::number_of(&tables.plan, &mut tables.cascade, call, &mut six));
         black_box(&six);
     }
     let by_single = each(start.elapsed());

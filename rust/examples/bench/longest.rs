@@ -1,8 +1,8 @@
 //! The longest single calls.
 
-use crate::archive::cells;
+use crate::archive::{self, cells};
 use crate::clock::Clock;
-use crate::hubs::{single, Tables};
+use crate::hubs::Tables;
 use crate::loads::Load;
 use crate::probes::{reserves, starts, walks};
 use lembuya::ffi;
@@ -71,7 +71,7 @@ fn measure_call(clock: &Clock, tables: &Tables, fast: &Fast, call: Call, name: &
             black_box(cascade)
         },
         |cascade| {
-            black_box(single(&tables.plan, cascade, black_box(call), &mut six));
+            black_box(archive::number_of(&tables.plan, cascade, black_box(call), &mut six));
         },
     );
     let start = frame_of(&again) > frame_of(tables);

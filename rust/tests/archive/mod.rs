@@ -117,25 +117,31 @@ pub fn run(text: &[u8], plan: &mut ffi::Plan, cascade: &mut ffi::Cascade, log: &
     (number, end[0])
 }
 
-/// One call, as its six numbers.
-#[inline]
-pub fn single(plan: &ffi::Plan, cascade: &mut ffi::Cascade, call: Call) -> [u64; 6] {
-    let number = unsafe {
+/// One call by the archive's function for it: its number, and a step's six numbers in `six`.
+#[inline(always)]
+pub fn number_of(plan: &ffi::Plan, cascade: &mut ffi::Cascade, call: Call, six: &mut [u64; 6]) -> u32 {
+    unsafe {
         match call {
             Call::Normal { t, k, b } => ffi::lembuya_normal(plan, cascade, t, k, b),
             Call::High { t, k, b } => ffi::lembuya_high(plan, cascade, t, k, b),
             Call::Off { t, k } => ffi::lembuya_off(plan, cascade, t, k),
             Call::Reserve { t, k, n, b } => ffi::lembuya_reserve(plan, cascade, t, k, n, b),
             Call::Until { t } => ffi::lembuya_until(plan, cascade, t),
-            Call::Step { t } => {
-                let mut six = [u64::MAX; 6];
-                let case = ffi::lembuya_step(plan, cascade, t, &mut six);
-                assert_eq!(u64::from(case), six[0], "a step returns its case");
-                return six;
-            }
+            Call::Step { t } => ffi::lembuya_step(plan, cascade, t, six),
         }
-    };
-    [u64::from(number), 0, 0, 0, 0, 0]
+    }
+}
+
+/// One call, as its six numbers.
+#[inline]
+pub fn single(plan: &ffi::Plan, cascade: &mut ffi::Cascade, call: Call) -> [u64; 6] {
+    let mut six = [u64::MAX; 6];
+    let number = u64::from(number_of(plan, cascade, call, &mut six));
+    if matches!(call, Call::Step { .. }) {
+        assert_eq!(number, six[0], "a step returns its case");
+        return six;
+    }
+    [number, 0, 0, 0, 0, 0]
 }
 
 /// What `lembuya_list` answers.

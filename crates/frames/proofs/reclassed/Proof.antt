@@ -1,6 +1,6 @@
 -- `frames::reclassed` meets its contract: each way through the tests is a law of Reclassing.
 use borrow.Author.Needs.{needs}
-use Rattle.frames.proofs.Reclassing.{stays-away, stays-normal, turns-unreserved, turns-longer, stays-high}
+use Rattle.frames.proofs.Reclassing.{stays-away, stays-normal, unreserved-normal, longer-normal, stays-high}
 use Rattle.frames.proofs.reclassed.Statement.{statement}
 use Rattle.frames.proofs.reclassed.Tie as tie
 
@@ -17,7 +17,7 @@ add-result-2 : tie.Need-add-result-2
 add-result-2 c = search needs
 
 returns-3 : tie.Need-returns-3
-returns-3 c = let a = c .before .before .before .args in turns-unreserved (a .share) (a .x) (c .before .if2 .left) (c .if3 .taken)
+returns-3 c = let a = c .before .before .before .args in unreserved-normal (a .share) (a .x) (c .before .if2 .left) (c .if3 .taken)
 
 add-result-3 : tie.Need-add-result-3
 add-result-3 c = search needs
@@ -25,7 +25,7 @@ add-result-3 c = search needs
 returns-4 : tie.Need-returns-4
 returns-4 c =
     let a = c .before .before .before .before .args in
-    turns-longer (a .share) (a .x) (c .before .before .if2 .left) (c .before .if3 .left) (c .if4 .taken)
+    longer-normal (a .share) (a .x) (c .before .before .if2 .left) (c .before .if3 .left) (c .if4 .taken)
 
 add-result-4 : tie.Need-add-result-4
 add-result-4 c = search needs

@@ -6,7 +6,7 @@ use native.Mathlib.Omega.{arith}
 use lib.ListN.{length, length-replicate}
 use Rattle.rules.specs.Plan as rules
 use Rattle.rules.specs.Drawn.{Within, Drawn}
-use Rattle.plan_tree.specs.Tables.{cells, hubCell, noTable, putRoot, hubOfNode, portOfNode}
+use Rattle.plan_tree.specs.Tables.{cells, noTable, putRoot, hubOfNode, portOfNode, levelCell, portsCell}
 use Rattle.plan.specs.Tables.{planOf}
 use Rattle.plan.specs.Reading.{Figures}
 use Rattle.plan_theory.specs.Tree.{Hub, portsOf, nodesIn, hubsIn, limits, goodFigures, Filled, filled, tablesOf}
@@ -52,17 +52,17 @@ module _ (fig : Figures) (x : Hub) where
   same a b = figures-other (filled x .tables) (fig .frame) (fig .overhead) (fig .interrupt) (filled x .nodes) (filled x .hubs) a b
 
   module _ (lim : HubRoom x 0 1 0 1) where
-    level-one : cell (tablesOf fig x) (hubCell 1 3) ≡ 1
+    level-one : cell (tablesOf fig x) (levelCell 1) ≡ 1
     level-one =
-        same (hubCell 1 3) (omega arith)
-        ∙ kept-hub x 1 0 1 start (hubCell 1 3) (root-room x lim) (hub-later 0 1 1 3 (omega arith) (omega arith) (omega arith) (omega arith))
+        same (levelCell 1) (omega arith)
+        ∙ kept-hub x 1 0 1 start (levelCell 1) (root-room x lim) (hub-later 0 1 1 3 (omega arith) (omega arith) (omega arith) (omega arith))
         (head-own 1 0 3 (omega arith) (omega arith))
         ∙ root-level noTable none-full
 
     shows : HubShows x (tablesOf fig x) 1 0 1 0 1
     shows = shown-hub x (tablesOf fig x) 1 0 1 start (root-room x lim) start-full (λ a f w. same a (w .figures))
 
-    root-ports : cell (tablesOf fig x) (hubCell 1 0) ≡ 0 + portsOf x
+    root-ports : cell (tablesOf fig x) (portsCell 1) ≡ 0 + portsOf x
     root-ports = shown-ports x (tablesOf fig x) 1 0 1 0 1 shows
 
     parts : Parts (tablesOf fig x) (above x) 1 0 (0 + portsOf x) 1 (1 + hubsIn x - 1) 0 (0 + nodesIn x)
@@ -95,7 +95,7 @@ module _ (fig : Figures) (x : Hub) where
     root-last : above x 1 (planOf (tablesOf fig x) .ports 1 + 1) ≡ planOf (tablesOf fig x) .nodes
     unfolding planOf
     root-last =
-        let e : cell (tablesOf fig x) (hubCell 1 0) + 1 ≡ 0 + portsOf x + 1 = omega (arith, root-ports) in
+        let e : cell (tablesOf fig x) (portsCell 1) + 1 ≡ 0 + portsOf x + 1 = omega (arith, root-ports) in
         ap (above x 1) e ∙ runs-last x (above x) 1 0 0 1 (above-runs x) ∙ omega (arith, nodes-are)
 
 pub drawn : (fig : Figures) (x : Hub) → goodFigures fig ≡ true → limits x ≡ true → Drawn (planOf (tablesOf fig x))

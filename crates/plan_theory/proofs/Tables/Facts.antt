@@ -6,7 +6,7 @@ use native.Mathlib.Omega.{arith}
 use borrow.Author.Tests.{ne-eqb, le-leb, lt-leb}
 use Rattle.rules.specs.Plan as rules
 use Rattle.rules.specs.Drawn.{Covers, Hung}
-use Rattle.plan_tree.specs.Tables.{hubCell, portCell, hub-code, portOf, hubOfNode, portOfNode}
+use Rattle.plan_tree.specs.Tables.{portCell, hub-code, portOf, hubOfNode, portOfNode, levelCell, portsCell}
 use Rattle.plan.specs.Tables.{planOf}
 use Rattle.plan_theory.specs.Tree.{Port, node, empty, hub, Hub, close, port, portsOf, nodesAt, nodesIn, hubsAt, hubsIn, levelsAt}
 use Rattle.plan_theory.specs.Taken.{Holds}
@@ -27,7 +27,7 @@ port-hub h low =
     simp (ne-eqb (hub-code + h) 0 (λ e. omega arith), lt-leb (hub-code + h) hub-code (omega arith), e)
 
 -- a hub's number of ports
-pub shown-ports : (x : Hub) (t : List ℕ) (g q l n h : ℕ) → HubShows x t g q l n h → cell t (hubCell g 0) ≡ q + portsOf x
+pub shown-ports : (x : Hub) (t : List ℕ) (g q l n h : ℕ) → HubShows x t g q l n h → cell t (portsCell g) ≡ q + portsOf x
 unfolding HubShows portsOf
 shown-ports close t g q l n h s = s ∙ omega arith
 shown-ports (port x y) t g q l n h s = shown-ports y t g (q + 1) l (n + nodesAt x) (h + hubsAt x) (s .1) ∙ omega arith
@@ -58,13 +58,13 @@ module _ (t : List ℕ) (above : ℕ → ℕ → ℕ) where
 
 -- hub g is of level l and has its first e ports, and the plan has at least H hubs
 pub record Around (t : List ℕ) (g e l H : ℕ) : Type 0 where
-  pub level : cell t (hubCell g 3) ≡ l
-  pub ports : e ≤ cell t (hubCell g 0)
+  pub level : cell t (levelCell g) ≡ l
+  pub ports : e ≤ cell t (portsCell g)
   pub hubs : H ≤ planOf t .hubs
 
 -- the hub at a port of hub g, from what is known of that hub's own ports
 module _ (x : Hub) (t : List ℕ) (above : ℕ → ℕ → ℕ) (g q l n h : ℕ) (r : RoomAt (hub x) g (q + 1) l n h) (a : Around t g (q + 1) l (h + hubsIn x))
-    (s : HubShown t g (q + 1) (h + 1) (l + 1)) (ports : cell t (hubCell (h + 1) 0) ≡ 0 + portsOf x)
+    (s : HubShown t g (q + 1) (h + 1) (l + 1)) (ports : cell t (portsCell (h + 1)) ≡ 0 + portsOf x)
   where
     new-around : Around t (h + 1) (0 + portsOf x) (l + 1) (h + 1 + hubsIn x - 1)
     new-around = record { level = s .level; ports = omega arith; hubs = omega (arith, a .hubs) }
@@ -96,7 +96,7 @@ module _ (x : Hub) (t : List ℕ) (above : ℕ → ℕ → ℕ) (g q l n h : ℕ
         new-port : PortGood t above g (q + 1)
         unfolding planOf
         new-port =
-            let e : cell t (hubCell (h + 1) 0) + 1 ≡ 0 + portsOf x + 1 = omega arith in
+            let e : cell t (portsCell (h + 1)) + 1 ≡ 0 + portsOf x + 1 = omega arith in
             hub-good t above g (q + 1) n first (h + 1) (n + nodesIn x) (l + 1) new-hung (runs-first x above (h + 1) 0 n (h + 1) runs)
             (ap (above (h + 1)) e ∙ runs-last x above (h + 1) 0 n (h + 1) runs) next s (omega arith)
 

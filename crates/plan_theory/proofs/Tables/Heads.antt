@@ -10,7 +10,7 @@ use lib.Seq.{getD-set-same, getD-set-other}
 use borrow.Author.Tests.{leb-true}
 use Rattle.rules.specs.Drawn as rules-drawn
 use Rattle.plan_tree.specs.Tables.{cells}
-use Rattle.plan.specs.Tables.{planOf, putFigures}
+use Rattle.plan.specs.Tables.{frame-cell, overhead-cell, interrupt-cell, nodes-cell, hubs-cell, planOf, putFigures}
 use Rattle.plan.specs.Reading.{Figures}
 use Rattle.plan_theory.specs.Tree.{goodFigures}
 use Rattle.plan_theory.proofs.Tables.Puts.{cell}
@@ -22,23 +22,23 @@ set-behind s i j v d = getD-set-other s i j v 0 (λ e. omega arith)
 module _ (T O D n h : ℕ) (t : List ℕ) (full : length t ≡ cells) where
   frame-is : planOf (putFigures T O D n h t) .frame ≡ T
   unfolding planOf putFigures
-  frame-is = simp (set-behind, lit<, tt {0}) (getD-set-same t 0 T 0 (omega arith))
+  frame-is = simp (set-behind, lit<, tt {0}) (getD-set-same t frame-cell T 0 (omega arith))
 
   overhead-is : planOf (putFigures T O D n h t) .overhead ≡ O
   unfolding planOf putFigures
-  overhead-is = simp (set-behind, lit<, tt {0}) (getD-set-same (set t 0 T) 1 O 0 (simp length-set (omega arith)))
+  overhead-is = simp (set-behind, lit<, tt {0}) (getD-set-same (set t frame-cell T) overhead-cell O 0 (simp length-set (omega arith)))
 
   interrupt-is : planOf (putFigures T O D n h t) .interrupt ≡ D
   unfolding planOf putFigures
-  interrupt-is = simp (set-behind, lit<, tt {0}) (getD-set-same (set (set t 0 T) 1 O) 2 D 0 (simp length-set (omega arith)))
+  interrupt-is = simp (set-behind, lit<, tt {0}) (getD-set-same (set (set t frame-cell T) overhead-cell O) interrupt-cell D 0 (simp length-set (omega arith)))
 
   pub nodes-is : planOf (putFigures T O D n h t) .nodes ≡ n
   unfolding planOf putFigures
-  nodes-is = simp (set-behind, lit<, tt {0}) (getD-set-same (set (set (set t 0 T) 1 O) 2 D) 3 n 0 (simp length-set (omega arith)))
+  nodes-is = simp (set-behind, lit<, tt {0}) (getD-set-same (set (set (set t frame-cell T) overhead-cell O) interrupt-cell D) nodes-cell n 0 (simp length-set (omega arith)))
 
   pub hubs-is : planOf (putFigures T O D n h t) .hubs ≡ h
   unfolding planOf putFigures
-  hubs-is = getD-set-same (set (set (set (set t 0 T) 1 O) 2 D) 3 n) 4 h 0 (simp length-set (omega arith))
+  hubs-is = getD-set-same (set (set (set (set t frame-cell T) overhead-cell O) interrupt-cell D) nodes-cell n) hubs-cell h 0 (simp length-set (omega arith))
 
 pub figures-good : (fig : Figures) (n h : ℕ) (t : List ℕ) → length t ≡ cells → goodFigures fig ≡ true
     → rules-drawn.Figures (planOf (putFigures (fig .frame) (fig .overhead) (fig .interrupt) n h t))

@@ -5,7 +5,7 @@ use mathlib.Core.List.{List}
 use native.Mathlib.Omega.{arith}
 use lib.ListN.{length, getD, set, length-set}
 use lib.Seq.{getD-set-same, getD-set-other}
-use Rattle.plan_tree.specs.Tables.{cells, hubCell, portCell, nodeCell, hub-code, putEmpty, putNode, putHub, putPorts, putRoot}
+use Rattle.plan_tree.specs.Tables.{cells, hubCell, portCell, nodeCell, hub-code, putEmpty, putNode, putHub, putPorts, putRoot, hubOfNodeCell, levelCell, parentCell, placeCell, portOfNodeCell, portsCell}
 use Rattle.plan.specs.Tables.{putFigures}
 
 -- cell a of a table
@@ -53,7 +53,7 @@ module _ (t : List ℕ) where
       let e3 = e 3 (omega arith) in
       simp getD-set-other
 
-  pub ports-other : (g q a : ℕ) → (a ≡ hubCell g 0 → ⊥) → cell (putPorts g q t) a ≡ cell t a
+  pub ports-other : (g q a : ℕ) → (a ≡ portsCell g → ⊥) → cell (putPorts g q t) a ≡ cell t a
   unfolding putPorts
   ports-other g q a d = simp getD-set-other
 
@@ -74,28 +74,28 @@ module _ (t : List ℕ) (full : length t ≡ cells) where
   unfolding putEmpty
   empty-port g q a b c = getD-set-same t (portCell g q) 0 0 (omega arith)
 
-  pub ports-count : (g q : ℕ) → 1 ≤ g → g ≤ 32 → cell (putPorts g q t) (hubCell g 0) ≡ q
+  pub ports-count : (g q : ℕ) → 1 ≤ g → g ≤ 32 → cell (putPorts g q t) (portsCell g) ≡ q
   unfolding putPorts
-  ports-count g q a b = getD-set-same t (hubCell g 0) q 0 (omega arith)
+  ports-count g q a b = getD-set-same t (portsCell g) q 0 (omega arith)
 
   module _ (g q k : ℕ) (low : 1 ≤ g) (up : g ≤ 32) (thin : q ≤ 32) (some : 1 ≤ k) (few : k ≤ 256) where
     pub node-port : cell (putNode g q k t) (portCell g q) ≡ k
     unfolding putNode
     node-port =
-        let a : portCell g q ≡ nodeCell k 0 → ⊥ = omega arith in
-        let b : portCell g q ≡ nodeCell k 1 → ⊥ = omega arith in
+        let a : portCell g q ≡ hubOfNodeCell k → ⊥ = omega arith in
+        let b : portCell g q ≡ portOfNodeCell k → ⊥ = omega arith in
         simp getD-set-other (getD-set-same t (portCell g q) k 0 (omega arith))
 
-    pub node-hub : cell (putNode g q k t) (nodeCell k 0) ≡ g
+    pub node-hub : cell (putNode g q k t) (hubOfNodeCell k) ≡ g
     unfolding putNode
     node-hub =
-        let a : nodeCell k 0 ≡ nodeCell k 1 → ⊥ = omega arith in
-        simp getD-set-other (getD-set-same (set t (portCell g q) k) (nodeCell k 0) g 0 (simp length-set (omega arith)))
+        let a : hubOfNodeCell k ≡ portOfNodeCell k → ⊥ = omega arith in
+        simp getD-set-other (getD-set-same (set t (portCell g q) k) (hubOfNodeCell k) g 0 (simp length-set (omega arith)))
 
-    pub node-place : cell (putNode g q k t) (nodeCell k 1) ≡ q
+    pub node-place : cell (putNode g q k t) (portOfNodeCell k) ≡ q
     unfolding putNode
     node-place =
-        getD-set-same (set (set t (portCell g q) k) (nodeCell k 0) g) (nodeCell k 1) q 0 (simp length-set (omega arith))
+        getD-set-same (set (set t (portCell g q) k) (hubOfNodeCell k) g) (portOfNodeCell k) q 0 (simp length-set (omega arith))
 
   module _ (g q h l : ℕ) (low : 1 ≤ g) (below : g < h) (up : h ≤ 32) (thin : q ≤ 32) where
     pub hub-port : cell (putHub g q h l t) (portCell g q) ≡ hub-code + h
@@ -107,27 +107,27 @@ module _ (t : List ℕ) (full : length t ≡ cells) where
         let a3 = a 3 in
         simp getD-set-other (getD-set-same t (portCell g q) (hub-code + h) 0 (omega arith))
 
-    pub hub-parent : cell (putHub g q h l t) (hubCell h 1) ≡ g
+    pub hub-parent : cell (putHub g q h l t) (parentCell h) ≡ g
     unfolding putHub
     hub-parent =
-        let a2 : hubCell h 1 ≡ hubCell h 2 → ⊥ = omega arith in
-        let a3 : hubCell h 1 ≡ hubCell h 3 → ⊥ = omega arith in
+        let a2 : parentCell h ≡ placeCell h → ⊥ = omega arith in
+        let a3 : parentCell h ≡ levelCell h → ⊥ = omega arith in
         simp getD-set-other
-        (getD-set-same (set t (portCell g q) (hub-code + h)) (hubCell h 1) g 0 (simp length-set (omega arith)))
+        (getD-set-same (set t (portCell g q) (hub-code + h)) (parentCell h) g 0 (simp length-set (omega arith)))
 
-    pub hub-place : cell (putHub g q h l t) (hubCell h 2) ≡ q
+    pub hub-place : cell (putHub g q h l t) (placeCell h) ≡ q
     unfolding putHub
     hub-place =
-        let a3 : hubCell h 2 ≡ hubCell h 3 → ⊥ = omega arith in
+        let a3 : placeCell h ≡ levelCell h → ⊥ = omega arith in
         simp getD-set-other
-        (getD-set-same (set (set t (portCell g q) (hub-code + h)) (hubCell h 1) g) (hubCell h 2) q 0 (simp length-set (omega arith)))
+        (getD-set-same (set (set t (portCell g q) (hub-code + h)) (parentCell h) g) (placeCell h) q 0 (simp length-set (omega arith)))
 
-    pub hub-level : cell (putHub g q h l t) (hubCell h 3) ≡ l
+    pub hub-level : cell (putHub g q h l t) (levelCell h) ≡ l
     unfolding putHub
     hub-level =
-        getD-set-same (set (set (set t (portCell g q) (hub-code + h)) (hubCell h 1) g) (hubCell h 2) q) (hubCell h 3) l 0
+        getD-set-same (set (set (set t (portCell g q) (hub-code + h)) (parentCell h) g) (placeCell h) q) (levelCell h) l 0
         (simp length-set (omega arith))
 
-  pub root-level : cell (putRoot t) (hubCell 1 3) ≡ 1
+  pub root-level : cell (putRoot t) (levelCell 1) ≡ 1
   unfolding putRoot
-  root-level = getD-set-same t (hubCell 1 3) 1 0 (omega arith)
+  root-level = getD-set-same t (levelCell 1) 1 0 (omega arith)

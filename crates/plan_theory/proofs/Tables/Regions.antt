@@ -4,7 +4,7 @@
 use Prim.Native.Nat.{ℕ, _+_, _≤_, _<_}
 use mathlib.Core.Path.{_≡_}
 use native.Mathlib.Omega.{arith}
-use Rattle.plan_tree.specs.Tables.{hubCell, portCell, nodeCell}
+use Rattle.plan_tree.specs.Tables.{hubCell, portCell, nodeCell, portsCell}
 
 -- no cell of a hub behind H or of a node behind N
 pub record Later (N H a : ℕ) : Type 0 where
@@ -13,7 +13,7 @@ pub record Later (N H a : ℕ) : Type 0 where
 
 -- not the cell of hub g's number of ports, and none of its ports behind port q
 pub record Own (g q a : ℕ) : Type 0 where
-  pub count : a ≡ hubCell g 0 → ⊥
+  pub count : a ≡ portsCell g → ⊥
   pub ports : (r : ℕ) → q < r → r ≤ 32 → a ≡ portCell g r → ⊥
 
 -- no figure, and no cell of a hub before hub g

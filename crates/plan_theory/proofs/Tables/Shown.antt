@@ -5,7 +5,7 @@ use mathlib.Core.Path.{_≡_, _∙_}
 use mathlib.Core.List.{List}
 use native.Mathlib.Omega.{arith}
 use lib.ListN.{length}
-use Rattle.plan_tree.specs.Tables.{cells, hubCell, portCell, nodeCell, hub-code, putNode, putHub}
+use Rattle.plan_tree.specs.Tables.{cells, hubCell, portCell, nodeCell, hub-code, putNode, putHub, hubOfNodeCell, levelCell, parentCell, placeCell, portOfNodeCell, portsCell}
 use Rattle.plan_theory.specs.Tree.{Port, node, empty, hub, Hub, close, port, nodesAt, hubsAt, Filled, fillPort, fillHub}
 use Rattle.plan_theory.proofs.Tables.Regions.{Later, Own, Lower, hub-later, node-later, port-own, head-own, hub-own, node-own, hub-lower, node-lower, lower-before, lower-own, later-more}
 use Rattle.plan_theory.proofs.Tables.Puts.{cell, hub-length, empty-port, ports-count, node-port, node-hub, node-place, hub-port, hub-parent, hub-place, hub-level}
@@ -16,15 +16,15 @@ use Rattle.plan_theory.proofs.Tables.Filling.{counted-port, counted-hub
 -- node k stands at port q of hub g
 pub record NodeShown (t : List ℕ) (g q k : ℕ) : Type 0 where
   pub port : cell t (portCell g q) ≡ k
-  pub of-hub : cell t (nodeCell k 0) ≡ g
-  pub of-port : cell t (nodeCell k 1) ≡ q
+  pub of-hub : cell t (hubOfNodeCell k) ≡ g
+  pub of-port : cell t (portOfNodeCell k) ≡ q
 
 -- hub h, of a level, stands at port q of hub g
 pub record HubShown (t : List ℕ) (g q h l : ℕ) : Type 0 where
   pub port : cell t (portCell g q) ≡ hub-code + h
-  pub parent : cell t (hubCell h 1) ≡ g
-  pub place : cell t (hubCell h 2) ≡ q
-  pub level : cell t (hubCell h 3) ≡ l
+  pub parent : cell t (parentCell h) ≡ g
+  pub place : cell t (placeCell h) ≡ q
+  pub level : cell t (levelCell h) ≡ l
 
 -- what stands at port q of hub g, which is of level l, behind n nodes and h
 -- hubs; and what stands at its ports behind port q, which are its last
@@ -35,7 +35,7 @@ unfoldable mutual
   PortShows (hub x) t g q l n h = HubShown t g q (h + 1) (l + 1) × HubShows x t (h + 1) 0 (l + 1) n (h + 1)
 
   pub HubShows : Hub → List ℕ → ℕ → ℕ → ℕ → ℕ → ℕ → Type 0
-  HubShows close t g q l n h = cell t (hubCell g 0) ≡ q
+  HubShows close t g q l n h = cell t (portsCell g) ≡ q
   HubShows (port x y) t g q l n h = PortShows x t g (q + 1) l n h × HubShows y t g (q + 1) l (n + nodesAt x) (h + hubsAt x)
 
 -- one port: what agrees with its filling shows it
@@ -109,7 +109,7 @@ mutual
       → cell t a ≡ cell (fillHub x g q l s .tables) a)
       → HubShows x t g q l (s .nodes) (s .hubs)
   shown-hub close t g q l s r full same =
-      same (hubCell g 0) (hub-later (s .nodes) (s .hubs) g 0 (r .hub-low) (r .hub-up) (few-hubs r) (omega arith)) (hub-lower g g 0 (omega arith))
+      same (portsCell g) (hub-later (s .nodes) (s .hubs) g 0 (r .hub-low) (r .hub-up) (few-hubs r) (omega arith)) (hub-lower g g 0 (omega arith))
       ∙ ports-count (s .tables) full g q (r .hub-low) (few-hubs r)
   shown-hub (port x y) t g q l s r full same =
       let s1 = fillPort x g (q + 1) l s in

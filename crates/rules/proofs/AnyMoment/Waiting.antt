@@ -22,7 +22,7 @@ use Rattle.rules.proofs.Laws.Passes.{sum-mono, put-other}
 use Rattle.rules.proofs.Core.EventChanges.{kept-by-change}
 use Rattle.rules.proofs.Core.CallCases.{Event, asking, leaving, reserving, waiting}
 use Rattle.rules.proofs.Core.Instants.{Advanced, across, inside}
-use Rattle.rules.proofs.Core.Requests.{Start, stays-high, turns-normal, start-of, counts-left, put-all}
+use Rattle.rules.proofs.Core.Requests.{Start, stays-high, becomes-normal, start-of, counts-left, put-all}
 use Rattle.rules.proofs.Core.Sound.{Sound}
 use Rattle.rules.proofs.Demand3.Standing.{high-counts, DueBefore}
 use Rattle.rules.proofs.Laws.Sums.{Same, it, other, same-or-not, more}
@@ -36,7 +36,7 @@ kept-high r b h = go (start-of r b)
   where
     go : {q : Request} → Start r b q → q ≡ standing high b
     go (stays-high k) = refl
-    go (turns-normal n) = absurd (n h)
+    go (becomes-normal n) = absurd (n h)
 
 -- R is what is reserved, and in force, in every frame of the wait
 module _ (p : Plan) (k start b : ℕ) (R : ℕ → Share) where

@@ -22,14 +22,14 @@ normal-high b d e = clash (cc)
 -- the frame's start keeps a high request exactly where `Keeps` says so
 pub data Start (r : Share) (b : ℕ) : Request → Type 0 where
   stays-high : Keeps r b → Start r b (standing high b)
-  turns-normal : (Keeps r b → ⊥) → Start r b (standing normal b)
+  becomes-normal : (Keeps r b → ⊥) → Start r b (standing normal b)
 
 pub start-of : (r : Share) (b : ℕ) → Start r b (reclassed r (standing high b))
 start-of r b = go (eqb (r .packets) 0) (ltb (r .bits) b) refl refl
   where
     go : (z l : Bool) → eqb (r .packets) 0 ≡ z → ltb (r .bits) b ≡ l → Start r b (if z || l then standing normal b else standing high b)
-    go true l e f = turns-normal (λ h. omega (arith, h .some, eqb-true (r .packets) 0 e))
-    go false true e f = turns-normal (λ h. omega (arith, h .fits, ltb-true (r .bits) b f))
+    go true l e f = becomes-normal (λ h. omega (arith, h .some, eqb-true (r .packets) 0 e))
+    go false true e f = becomes-normal (λ h. omega (arith, h .fits, ltb-true (r .bits) b f))
     go false false e f =
         stays-high (record { some = omega (arith, eqb-false (r .packets) 0 e); fits = ltb-false (r .bits) b f })
 
@@ -41,7 +41,7 @@ reclassed-high r (standing high d) b e = go (start-of r d) e
   where
     go : {q : Request} → Start r d q → q ≡ standing high b → (standing high d ≡ standing high b) × Keeps r b
     go (stays-high h) e = (e, (let f : d ≡ b = cc in subst (λ (x : ℕ). Keeps r x) f h))
-    go (turns-normal h) e = normal-high d b e
+    go (becomes-normal h) e = normal-high d b e
 
 -- what stands after the frame's start stood before, of the same length
 pub reclassed-standing : (r : Share) (q : Request) (c : Class) (b : ℕ) → reclassed r q ≡ standing c b → (d : Class) × (q ≡ standing d b)
@@ -51,7 +51,7 @@ reclassed-standing r (standing high d) c b e = go (start-of r d) e
   where
     go : {q : Request} → Start r d q → q ≡ standing c b → (x : Class) × (standing high d ≡ standing x b)
     go (stays-high h) e = (high, (let f : d ≡ b = cc in cc))
-    go (turns-normal h) e = (high, (let f : d ≡ b = cc in cc))
+    go (becomes-normal h) e = (high, (let f : d ≡ b = cc in cc))
 
 -- a request that counts in a class stands in that class
 pub of-class : (c : Class) (q : Request) → isClass c q ≡ true → (b : ℕ) × (q ≡ standing c b)

@@ -15,7 +15,7 @@ use Rattle.rules.specs.Words.{reserved, Asked, asked, requestAt, Keeps, 
 use Rattle.rules.proofs.Laws.Passes.{Which, which, yes′, no′}
 use Rattle.rules.proofs.Laws.Frames.{frame-mono}
 use Rattle.rules.proofs.Core.Instants.{Advanced, across, inside, advanced}
-use Rattle.rules.proofs.Core.Requests.{Start, stays-high, turns-normal, start-of}
+use Rattle.rules.proofs.Core.Requests.{Start, stays-high, becomes-normal, start-of}
 
 -- k's request by the words, and in the core, in frame f: a high one is high
 -- still if each frame start since kept it, and normal if one did not
@@ -57,7 +57,7 @@ module _ (p : Plan) (k : ℕ) where
 
       go : {x : Request} → Start r b x → Tells p k past soon (asked high t b) x
       go (stays-high h) = kept t b (omega arith) n (λ f v u. keeps h f v (which (ltb now f)) u)
-      go (turns-normal h) = made-normal t b soon (omega arith) (omega arith) (λ x. h (rw (later soon l) at x))
+      go (becomes-normal h) = made-normal t b soon (omega arith) (omega arith) (λ x. h (rw (later soon l) at x))
   tells-start r l later (made-normal t b f m u n) = made-normal t b f m (omega arith) n
 
 -- the clock's advance changes no word

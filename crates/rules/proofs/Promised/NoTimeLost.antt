@@ -18,7 +18,7 @@ use Rattle.rules.proofs.Core.RowsPassed.{InTime, passed11}
 use Rattle.rules.proofs.Core.CallCases.{accepts, Course, refusal, quietly, granting, course}
 use Rattle.rules.proofs.Laws.Frames.{frame-of-start}
 use Rattle.rules.proofs.Core.Instants.{Instant, line-ends, one-counts, one-held, no-instant, instant, Seeking, seeks, none-counts, seeking, Advanced, across, inside, advanced}
-use Rattle.rules.proofs.Core.Requests.{Start, stays-high, turns-normal, start-of, of-class}
+use Rattle.rules.proofs.Core.Requests.{Start, stays-high, becomes-normal, start-of, of-class}
 use Rattle.rules.proofs.Flat.Follows.{Follows}
 use Rattle.rules.proofs.Flat.Turns.{Pointed, node-counts}
 use Rattle.rules.proofs.Core.ClockAdvance.{due-late, due-end}
@@ -38,7 +38,7 @@ high-counts s r k b q g = go (start-of (r .force k) b) q
   where
     go : {x : Request} → Start (r .force k) b x → r .request k ≡ x → counts r k ≡ true
     go (stays-high h) e = counts-in high r k (rw (e, g) (lt-ltb 0 (r .force k .packets) (h .some)))
-    go (turns-normal h) e = counts-in normal r k (rw e)
+    go (becomes-normal h) e = counts-in normal r k (rw e)
 
 module _ (p : Plan) (s : Core) where
   -- what counts still counts as the clock stays where it is

@@ -22,7 +22,7 @@ pub fn string(text: &str) -> String {
 pub fn object(file: &str, entry: &Entry, first: bool) -> String {
     let fields = match entry {
         Entry::Taken { nodes, hubs } => format!("\"form\":\"nodes\",\"nodes\":{nodes},\"hubs\":{hubs}"),
-        Entry::Turn(Step::Grant { time, node, class, end, moves }) => {
+        Entry::Step(Step::Grant { time, node, class, end, moves }) => {
             let class = match class {
                 Class::Normal => "normal",
                 Class::High => "high",
@@ -31,10 +31,10 @@ pub fn object(file: &str, entry: &Entry, first: bool) -> String {
                 "\"form\":\"grant\",\"time\":{time},\"node\":{node},\"class\":\"{class}\",\"end\":{end},\"moves\":{moves}"
             )
         }
-        Entry::Turn(Step::Rest { time, moves }) => {
+        Entry::Step(Step::Rest { time, moves }) => {
             format!("\"form\":\"rest\",\"time\":{time},\"moves\":{moves}")
         }
-        Entry::Turn(Step::Quiet) => unreachable!("the log has no line for quiet"),
+        Entry::Step(Step::Quiet) => unreachable!("the log has no line for quiet"),
         Entry::Refused { line, number } => {
             let words = string(&words(*number, first));
             format!("\"form\":\"refused\",\"line\":{line},\"number\":{number},\"words\":{words}")

@@ -13,7 +13,7 @@ pub enum Entry {
         hubs: u64,
     },
     /// A grant or a rest.
-    Turn(Step),
+    Step(Step),
     /// `(refused line number)`.
     Refused {
         /// The line of the text.
@@ -43,10 +43,10 @@ impl Entry {
                 if time < end && end <= LATEST =>
             {
                 let class = if class == 1 { Class::Normal } else { Class::High };
-                Some(Entry::Turn(Step::Grant { time, node, class, end, moves }))
+                Some(Entry::Step(Step::Grant { time, node, class, end, moves }))
             }
             ("rest", &[time, moves], [_, _]) if time <= LATEST => {
-                Some(Entry::Turn(Step::Rest { time, moves }))
+                Some(Entry::Step(Step::Rest { time, moves }))
             }
             ("refused", &[line, number], [_, _]) => Some(Entry::Refused { line, number }),
             _ => None,
@@ -93,8 +93,8 @@ mod tests {
             Ok(vec![
                 Entry::Taken { nodes: 4, hubs: 2 },
                 Entry::Refused { line: 15, number: 16 },
-                Entry::Turn(Step::Grant { time, node, class, end, moves }),
-                Entry::Turn(Step::Rest { time: 20_000, moves: 1 }),
+                Entry::Step(Step::Grant { time, node, class, end, moves }),
+                Entry::Step(Step::Rest { time: 20_000, moves: 1 }),
             ])
         );
         for line in [

@@ -201,15 +201,15 @@ fn limit_words(node: usize, frame: u64, share: Share, limit: u64, at: u64) -> St
 /// When an entry of the log is over.
 fn end(entry: &Entry) -> Option<u64> {
     match entry {
-        Entry::Turn(Step::Grant { end, .. }) => Some(*end),
-        Entry::Turn(Step::Rest { time, .. }) => Some(*time),
+        Entry::Step(Step::Grant { end, .. }) => Some(*end),
+        Entry::Step(Step::Rest { time, .. }) => Some(*time),
         _ => None,
     }
 }
 
 fn turn(entry: &Entry) -> Option<Step> {
     match entry {
-        Entry::Turn(turn) => Some(*turn),
+        Entry::Step(turn) => Some(*turn),
         _ => None,
     }
 }

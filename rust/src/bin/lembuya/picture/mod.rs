@@ -103,7 +103,7 @@ fn alone(file: &str, bytes: &[u8]) -> Result<Vec<Entry>, Wrong> {
         return Err(Wrong(format!("{file}:1: a plan has 1 to 256 nodes")));
     }
     for (at, entry) in entries.iter().enumerate() {
-        if matches!(entry, Entry::Turn(lembuya::Step::Grant { node, .. }) if !(1..=nodes).contains(node)) {
+        if matches!(entry, Entry::Step(lembuya::Step::Grant { node, .. }) if !(1..=nodes).contains(node)) {
             return Err(Wrong(format!("{file}:{}: there is no such node", at + 1)));
         }
     }
