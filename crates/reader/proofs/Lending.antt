@@ -2,8 +2,8 @@
 -- loan is an atom ν of its own, met with the text's κ: the reader may not be lent for longer than the text.
 --     local-out, local-in     the local's cell with what the reader owns is what lies in memory
 --     lends                   the cell, what the reader owns and a share of the text's token give what `next` asks, and `Kept`
---     comes-back              what `next` leaves, with `Kept`, gives the line
---     with what is known of it, and the cell, the reader and the token again
+--     comes-back              what `next` leaves, with `Kept`, gives the line with what is known of it,
+--                             and the cell, the reader and the token again
 -- Assumes `Given`.
 use mathlib.Core.Path.{_≡_, refl}
 use Prim.Native.Nat.{ℕ}

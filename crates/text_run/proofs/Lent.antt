@@ -1,8 +1,8 @@
 -- One pass of the run lends what it holds to `proceed` and has it back: the cascade's table and
 -- the buffer are lent again for a lifetime ν of the call, the plan and the line are shared.
 --     lends          what is held gives what `proceed` asks, and `Kept`
---     comes-back     what `proceed` leaves, with `Kept`, gives how the run goes
---     on, the table and the buffer at their last values, and all tokens again
+--     comes-back     what `proceed` leaves, with `Kept`, gives how the run goes on,
+--                    the table and the buffer at their last values, and all tokens again
 -- Assumes `Given`.
 use mathlib.Core.Path.{_≡_, refl, sym}
 use Prim.Native.Nat.{ℕ, _<_, _^_}
