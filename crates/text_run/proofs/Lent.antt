@@ -39,6 +39,8 @@ use Rattle.reader.proofs.Line as N
 use Rattle.reader.proofs.Line.Laws as N′
 use Rattle.reader.proofs.Holding as has
 use Rattle.log_spec.specs.Cells.{Run}
+use Rattle.plan_tree.specs.Tables as tree
+use Rattle.cells.specs.Layout as layout
 use Rattle.text_run.specs.declared.Went.{Went}
 use Rattle.line_run.specs.LineRun.{lineBy}
 use Rattle.text_run.specs.LinePass.{Passed}
@@ -51,10 +53,10 @@ Proceed 𝓤 H A mem run = tripleOf 𝓤 H A proceed.signature (proceed.spec �
 
 -- what the run holds: the plan, the cascade's table, and the buffer
 abbrev pub Plan : RattleType
-Plan = Array u32 1672
+Plan = Array u32 tree.cells
 
 abbrev pub Cascade : RattleType
-Cascade = Array u32 1160
+Cascade = Array u32 layout.cells
 
 abbrev pub at-place : {X : Type 0} → ℕ × ℕ → GName → X → RefT X
 at-place p γ x = record { ptr = p; name = γ; now = x }

@@ -63,6 +63,8 @@ use Rattle.reader.proofs.next.Met as next-thm
 use Rattle.writer.specs.declared.Put.{Put}
 use Rattle.writer.proofs.Put as Y
 use Rattle.writer.proofs.Put.Laws as Y′
+use Rattle.plan_tree.specs.Tables as tree
+use Rattle.cells.specs.Layout as layout
 use Rattle.text_run.specs.declared.Went.{Went}
 use Rattle.line_run.specs.LineRun.{Ran, lineBy}
 use Rattle.text_run.specs.LinePass.{Passed}
@@ -80,10 +82,10 @@ use Rattle.text_run.proofs.events.Code as code
 
 -- the plan's and the cascade's tables, as the referents' places in the signature
 abbrev plan : Slot 4
-plan = ArrayOf (plain (λ _. u32)) (λ _. tt) 1672
+plan = ArrayOf (plain (λ _. u32)) (λ _. tt) tree.cells
 
 abbrev cascade : Slot 4
-cascade = ArrayOf (plain (λ _. u32)) (λ _. tt) 1160
+cascade = ArrayOf (plain (λ _. u32)) (λ _. tt) layout.cells
 
 abbrev stayed : Stays (events.ended .signature .params) (events.ended .kept)
 stayed = (
