@@ -79,6 +79,7 @@ module _ (P : List ℕ) (R : Ready P) (past : List Entry) (m : Made P past (made
         hub = tied .hub;
         answers = λ call. agrees call .answer;
         leaves = leaves;
+        as-from-root = ap (map plain) same ∙ kept .as-from-root;
         saves = λ call. subst (λ (h : Hub Control). SavesOn p h call) (sym (tied .hub)) (kept .saves call);
         no-time-lost = subst (NoTimeLost p (control p)) (sym (tied .hub)) (kept .no-time-lost);
         clock-grows = grows;

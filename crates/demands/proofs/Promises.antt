@@ -8,7 +8,7 @@ use Rattle.rules.specs.Drawn.{Drawn}
 use Rattle.rules.specs.Control.{control}
 use Rattle.rules.specs.Run.{made}
 use Rattle.rules.proofs.Control.FollowsFlat.{control-follows}
-use Rattle.rules.proofs.Control.EveryList.{control-turns-agree, control-moves}
+use Rattle.rules.proofs.Control.EveryList.{control-turns-agree, as-from-root, control-moves}
 use Rattle.rules.proofs.Control.Saving.{control-saves}
 use Rattle.rules.proofs.Travel.EveryRun.{control-travels}
 use Rattle.rules.proofs.Demand3.OfControl.{control-demand3}
@@ -35,6 +35,7 @@ module _ (p : Plan) (drawn : Drawn p) (calls : List Call) where
       record {
         turns-agree = control-turns-agree p drawn calls;
         few-moves = control-moves p drawn calls;
+        as-from-root = as-from-root p drawn calls;
         saves = control-saves p drawn calls;
         travels = control-travels p drawn calls;
         demand-3 = control-demand3 p drawn calls;

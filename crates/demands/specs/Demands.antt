@@ -1,6 +1,7 @@
--- The demands, of the entry points as they can be called. Their contracts
--- (hub/src/lib.rt, requests/src/lib.rt) are these, for every content of both tables:
+-- The demands, of the entry points as they can be called. Their contracts (plan/src/lib.rt,
+-- hub/src/lib.rt, requests/src/lib.rt) are these, for every text and every content of both tables:
 --
+--   read(text, plan)         answers reading text .answer, and leaves `leaves (reading text) plan`
 --   fresh(s)                 leaves freshCells
 --   normal(p, s, t, k, b)    EventPromise P (ask normal t k b) s r z
 --   high(p, s, t, k, b)      EventPromise P (ask high t k b) s r z
@@ -9,18 +10,20 @@
 --   until(p, s, t)           EventPromise P (until t) s r z
 --   step(p, s, t)            StepPromise P t s r z
 --
--- where P and s are the cells at entry, r is the answer and z the cascade's cells at exit. Below:
--- what follows for every plan text that is taken and every list of such calls from its fresh table.
+-- where P and s are the cells at entry, r is the answer and z the cascade's cells at exit. Below: what
+-- follows for every text that is read (`PlanDemands`), and for every list of such calls from the fresh
+-- table of a plan that is taken (`Demands`). That each call ends and never faults is part of its contract.
 -- Of lists that also hold calls beside the hub the same is said in `beside`, specs/SameHub.antt.
 use Prim.Native.Nat.{ℕ, _-_, _*_, _≤_}
 use mathlib.Core.Path.{_≡_}
 use mathlib.Core.Bool.{true}
+use mathlib.Core.Logic.{_↔_}
 use mathlib.Core.List.{List, [], _∷_, map}
 use Rattle.rules.specs.Plan.{Plan, levels}
 use Rattle.rules.specs.Call.{Call, step, Answer, taken, refused, quiet}
 use Rattle.rules.specs.Machine.{perform}
 use Rattle.rules.specs.Flat.{flat}
-use Rattle.rules.specs.Control.{control}
+use Rattle.rules.specs.Control.{control, fromRoot}
 use Rattle.rules.specs.Run.{Entry, made}
 use Rattle.rules.specs.Agree.{plain, movesOf, Every}
 use Rattle.rules.specs.Saving.{SavesOn}
@@ -28,11 +31,27 @@ use Rattle.rules.specs.Travel.{Travels}
 use Rattle.rules.specs.Demand.{Holds3}
 use Rattle.rules.specs.AnyMoment.{AnyMoment}
 use Rattle.rules.specs.Promises.{NoTimeLost, Admits, Acceptable}
+use Rattle.plan.specs.Reading.{reading, leaves}
+use Rattle.plan_theory.specs.Taken.{DrawnBy, TakenAs, RefusedAt, TakenFor}
+use Rattle.plan_theory.specs.First.{DecidedBy}
 use Rattle.cells.specs.declared.Step.{Step}
 use Rattle.cells.specs.Layout.{timeAt, clock-cell}
 use Rattle.cells.specs.Decode.{hubOf, coreOf}
 use Rattle.cells.specs.Fresh.{freshCells}
 use Rattle.cells.specs.Calls.{isEvent, EventPromise, StepPromise, eventAnswer, stepAnswer, performBy}
+
+-- Demand 2, of plans
+pub record PlanDemands (text : List ℕ) : Type 0 where
+  -- a text is taken just where it starts with the drawing of a tree within the limits, behind three good figures
+  pub taken-iff : ((nodes : ℕ) × (hubs : ℕ) × (at : ℕ) × (line : ℕ) × TakenAs text nodes hubs at line) ↔ DrawnBy text
+  -- and then for just the hubs, ports, nodes and figures that its lines draw
+  pub taken-for : (d : DrawnBy text) → TakenFor text (d .fig) (d .tree) (d .rest)
+  -- every other text is refused
+  pub refused-iff : ((line : ℕ) × (number : ℕ) × RefusedAt text line number) ↔ (DrawnBy text → ⊥)
+  -- the first line from above to which a row applies decides
+  pub first-line : (line number : ℕ) → RefusedAt text line number → DecidedBy text line number
+  -- Demand 1: a refused plan leaves the lent tables as they were
+  pub refusal-changes-nothing : (line number : ℕ) → RefusedAt text line number → (plan : List ℕ) → leaves (reading text) plan ≡ plan
 
 -- A list of calls made one after the other on one table, with their answers, the latest first, and
 -- the table that they left: the first call gets the fresh table, each later one what the last left,
@@ -76,7 +95,10 @@ module _ (P : List ℕ) (p : Plan) (past : List Entry) (s : List ℕ) where
     pub hub : hubOf p s ≡ made p (control p) (callsOf past) .hub
     pub answers : (call : Call) → answerTo call ≡ perform p (control p) call (hubOf p s) .answer
     pub leaves : (call : Call) → hubOf p (cellsAfter call) ≡ perform p (control p) call (hubOf p s) .hub
-    -- Request 4 of document 02: from the same cells the rule 2 that went up to the root answers the same, in no fewer moves
+    -- Request 4 of document 02, "Grants must be exactly the old ones": the run of the
+    -- same calls by document 01's rule 2, up to the root, answers the same but for moves
+    pub as-from-root : map plain past ≡ map plain (made p (fromRoot p) (callsOf past) .past)
+    -- and from the same cells that rule answers the same, in no fewer moves
     pub saves : (call : Call) → SavesOn p (hubOf p s) call
     -- No time is lost, and the clock never goes back
     pub no-time-lost : NoTimeLost p (control p) (hubOf p s)

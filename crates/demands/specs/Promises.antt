@@ -6,7 +6,7 @@ use Rattle.rules.specs.Plan.{Plan, levels}
 use Rattle.rules.specs.Call.{Call, Answer, refused, quiet, taken}
 use Rattle.rules.specs.Machine.{Hub, perform}
 use Rattle.rules.specs.Flat.{flat}
-use Rattle.rules.specs.Control.{Control, control}
+use Rattle.rules.specs.Control.{Control, control, fromRoot}
 use Rattle.rules.specs.Run.{Made, made}
 use Rattle.rules.specs.Agree.{plain, movesOf, Every}
 use Rattle.rules.specs.Saving.{SavesOn}
@@ -32,7 +32,10 @@ module _ (p : Plan) (calls : List Call) where
     pub turns-agree : map plain (cascade .past) ≡ map plain (made p (flat p) calls .past)
     -- Moves: at most 4 × (L - 1) in each grant and rest
     pub few-moves : Every (λ a. movesOf a ≤ 4 * (levels p - 1)) (cascade .past)
-    -- Request 4 of document 02: in the same state the rule 2 that went up to the root answers the same, in no fewer moves
+    -- Request 4 of document 02, "Grants must be exactly the old ones": the run of the
+    -- same calls by document 01's rule 2, up to the root, answers the same but for moves
+    pub as-from-root : map plain (cascade .past) ≡ map plain (made p (fromRoot p) calls .past)
+    -- and in the same state that rule answers the same, in no fewer moves
     pub saves : (call : Call) → SavesOn p (cascade .hub) call
     -- Request 13 of document 02: in a run of grants of one class, with w returns of
     -- the root's pointer, which the answers tell, at most 2 × (H - 1) × (w + 1)

@@ -1,0 +1,24 @@
+-- Demand 2, of plans, on the page of the demands: what `plan_theory` shows of every text.
+use mathlib.Core.Path.{_≡_, refl, subst, sym}
+use mathlib.Core.List.{List}
+use Prim.Native.Nat.{ℕ}
+use Rattle.plan.specs.declared.Answer.{Answer}
+use Rattle.plan.specs.declared.Answer.the-variants.{Refused}
+use Rattle.plan.specs.Reading.{reading, leaves}
+use Rattle.plan_theory.specs.Taken.{RefusedAt}
+use Rattle.plan_theory.proofs.Tree.Taken.{drawing-taken, taken-iff, refused-iff}
+use Rattle.plan_theory.proofs.First.{refused-decided}
+use Rattle.demands.specs.Demands.{PlanDemands}
+
+left-alone : (text : List ℕ) (line number : ℕ) → RefusedAt text line number → (plan : List ℕ) → leaves (reading text) plan ≡ plan
+left-alone text line number e plan = rw e refl
+
+pub plan-demands : (text : List ℕ) → PlanDemands text
+plan-demands text =
+    record {
+      taken-iff = taken-iff text;
+      taken-for = drawing-taken text;
+      refused-iff = refused-iff text;
+      first-line = refused-decided text;
+      refusal-changes-nothing = left-alone text;
+    }
