@@ -1,7 +1,8 @@
 -- The theorems: Sample (document 01's example by computing), RunLogged (a pass over the lent tables writes
 -- or measures the log), AtOnce (lines one by one are their bytes at once), NoStepLeft (no step is left out),
--- LogLength (no log has more than 18 × 65,536 bytes). Writing, Leading, StepsLogged and EventsLogged serve
--- the second; LineLengths, PutAside, EventsPaid, EventsPlace and RefusedPlan serve the last.
+-- NeverTwelve (no event of any text meets 12), LogLength (no log has more than 18 × 65,536 bytes). Writing,
+-- Leading, StepsLogged and EventsLogged serve the second; RefusedLines serves NeverTwelve; LineLengths,
+-- PutAside, EventsPaid and EventsPlace serve the last, and RefusedPlan serves both.
 pub mod Sample
 pub mod Writing
 pub mod Leading
@@ -14,5 +15,7 @@ pub mod LineLengths
 pub mod PutAside
 pub mod EventsPlace
 pub mod RefusedPlan
+pub mod RefusedLines
+pub mod NeverTwelve
 pub mod EventsPaid
 pub mod LogLength
