@@ -175,8 +175,8 @@ replaced-wait =
                 taken ∷ taken ∷ taken ∷ taken
                 ∷ taken ∷ taken ∷ grant 195000 2 normal 208000 1 ∷ taken
                 ∷ taken ∷ taken ∷ taken ∷ taken ∷ taken
-                ∷ grant 208000 1 high 213000 1 ∷ grant 213000 2 high 217000 1 ∷ grant 217000 3 high 220000 0 ∷ taken ∷ grant 220000 4 high 223000 1
-                ∷ rest 223000 0 ∷ [];
+                ∷ grant 208000 1 high 213000 1 ∷ grant 213000 2 high 217000 1 ∷ grant 217000 3 high 220000 0
+                ∷ taken ∷ grant 220000 4 high 223000 1 ∷ rest 223000 0 ∷ [];
             left = true;
             stands = true;
             unchanged = true;
@@ -347,7 +347,9 @@ not-run =
     }
 
 abbrev pub worked-waits : List Worked
-worked-waits = full-wait ∷ full-wait-across ∷ replaced-wait ∷ passed-once ∷ share-spent ∷ withdrawn ∷ asked-normal ∷ more-reserved ∷ not-run ∷ []
+worked-waits =
+    full-wait ∷ full-wait-across ∷ replaced-wait ∷ passed-once
+    ∷ share-spent ∷ withdrawn ∷ asked-normal ∷ more-reserved ∷ not-run ∷ []
 
 -- row by row
 abbrev pub AllRight : List Worked → Type 0
