@@ -19,7 +19,7 @@ import sys
 import tempfile
 
 from model.any_moment import Wait
-from model.calls import Grant, Refused, call, class_name
+from model.calls import HIGH, Grant, Refused, call, class_name
 from model.figures import LATEST_TIME, MOST_LEVELS, MOST_PACKETS
 from model.hub import Hub, run
 from model.plan import plan_of
@@ -85,7 +85,16 @@ def random_call(rng, hub):
     return call('until', t)
 
 
+def replacing_call(rng, hub, k):
+    """Another high request of a node whose high request counts, not before it."""
+    core = hub.core
+    return call('high', rng.randint(core.clock, core.due()), k, rng.randint(hub.plan.shortest_packet, core.force[k].b))
+
+
 def loaded_call(rng, hub):
+    waiting = sorted(hub.core.counting(HIGH))
+    if waiting and rng.random() < .2:
+        return replacing_call(rng, hub, rng.choice(waiting))
     if rng.random() < .4:
         return call('step', (hub.core.due() or hub.core.clock) + 1)
     return call(rng.choice(['normal', 'normal', 'high']), hub.core.clock, rng.randint(1, hub.plan.nodes), 512)
@@ -112,12 +121,14 @@ def random_run(rng, plan, count):
 
 
 def waits(rng, plan, entries):
-    """Some of the list's high requests, also as they are if it ends before; few frames, since each is looked at."""
+    """Some of the list's high requests, one that is replaced among them, also as they are if it ends before; few frames, since each is
+    looked at."""
     found = []
     for end in (len(entries), rng.randint(1, len(entries))):
         cut = entries[:end]
-        asked = [i for i, entry in enumerate(cut) if accepted(entry, 'high')]
-        found += [Wait(plan, cut, i) for i in rng.sample(asked, min(3, len(asked)))]
+        asked = [Wait(plan, cut, i) for i, entry in enumerate(cut) if accepted(entry, 'high')]
+        found += rng.sample(asked, min(3, len(asked)))
+        found += [wait for wait in asked if wait.holds() and wait.is_replaced()][:1]
     return [wait for wait in found if wait.last_frame - wait.first_frame < 20]
 
 
@@ -147,6 +158,7 @@ class Tally:
         self.waits['looked at'] += 1
         self.waits['premises hold'] += wait.holds()
         self.waits['over a start'] += wait.holds() and wait.crosses_a_start()
+        self.waits['replaced later'] += wait.holds() and wait.is_replaced()
         for premise in ('left', 'stands', 'unchanged', 'ran'):
             self.waits[f'not {premise}'] += not getattr(wait, premise)
 

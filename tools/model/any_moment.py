@@ -1,4 +1,6 @@
 """Request 5 of document 02, "Any moment, not only a frame's start", of one high request in a list of calls."""
+import itertools
+
 from . import words
 from .calls import HIGH
 
@@ -18,7 +20,7 @@ class Wait:
         self.last_frame = (self.grant.time if self.grant else words.clock_after(entries)) // plan.frame
         self.limit = self.time + plan.interrupt + self.others()
         self.left = len(words.high_grants(plan, entries[:place], self.node, self.first_frame)) < self.shares()[self.node][0]
-        self.stands = not self.touched()
+        self.stands = not any(words.accepted(entry, 'normal', 'off') for entry in self.own_events())
         self.unchanged = all(self.shares(f) == self.shares() for f in range(self.first_frame, self.last_frame + 1))
         self.ran = words.run_past(entries, self.limit)
 
@@ -29,20 +31,19 @@ class Wait:
         """"The sum of c over all other nodes with a reservation in force"."""
         return sum(b + self.plan.overhead for k, (n, b) in self.shares().items() if k != self.node and n > 0)
 
-    def touched(self):
-        """Whether an accepted event of the node's own replaced or withdrew the request before the grant."""
-        for entry in self.since:
-            if words.is_grant_to(entry, self.node):
-                return False
-            if words.accepted(entry, 'normal', 'high', 'off') and entry.call.k == self.node:
-                return True
-        return False
+    def own_events(self):
+        """The node's accepted events before the grant. A normal or an off breaks the stand; a high only replaces the packet."""
+        waited = itertools.takewhile(lambda entry: not words.is_grant_to(entry, self.node), self.since)
+        return [entry for entry in waited if words.accepted(entry, 'normal', 'high', 'off') and entry.call.k == self.node]
 
     def holds(self):
         return self.left and self.stands and self.unchanged and self.ran
 
     def kept(self):
         return self.grant is not None and self.grant.class_ == HIGH and self.grant.time <= self.limit
+
+    def is_replaced(self):
+        return any(words.accepted(entry, 'high') and entry.call.t > self.time for entry in self.own_events())
 
     def crosses_a_start(self):
         return self.last_frame > self.first_frame

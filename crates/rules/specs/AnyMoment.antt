@@ -9,7 +9,7 @@ use lib.ListN.{length}
 use Rattle.rules.specs.Choice.{if_then_else_, sum}
 use Rattle.rules.specs.Plan.{Plan}
 use Rattle.rules.specs.Drawn.{Within}
-use Rattle.rules.specs.Call.{Class, high, Call, ask, off, reserve, until, step, Answer, taken, refused, grant, rest, quiet}
+use Rattle.rules.specs.Call.{Class, normal, high, Call, ask, off, reserve, until, step, Answer, taken, refused, grant, rest, quiet}
 use Rattle.rules.specs.Core.{Share, frameOf}
 use Rattle.rules.specs.Run.{Entry}
 use Rattle.rules.specs.Words.{clockAt, reserved, highGrants}
@@ -40,30 +40,32 @@ unfoldable pub firstGrant : ℕ → List Entry → Grant
 firstGrant k [] = none
 firstGrant k (e ∷ since) = orElse (firstGrant k since) (grantBy k (e .call) (e .answer))
 
--- whether an entry is an accepted normal, high or off of k
-abbrev pub changes : ℕ → Call → Answer → Bool
-changes k (ask c t j b) taken = eqb j k
-changes k (ask c t j b) (refused m) = false
-changes k (ask c t j b) (grant s i d end moves) = false
-changes k (ask c t j b) (rest s moves) = false
-changes k (ask c t j b) quiet = false
-changes k (off t j) taken = eqb j k
-changes k (off t j) (refused m) = false
-changes k (off t j) (grant s i d end moves) = false
-changes k (off t j) (rest s moves) = false
-changes k (off t j) quiet = false
-changes k (reserve t j n b) answer = false
-changes k (until t) answer = false
-changes k (step t) answer = false
+-- whether an entry breaks the stand of k's high request: an accepted normal or
+-- off of k. Behind an accepted high of k a high request of k still stands
+abbrev pub breaks : ℕ → Call → Answer → Bool
+breaks k (ask normal t j b) taken = eqb j k
+breaks k (ask high t j b) taken = false
+breaks k (ask c t j b) (refused m) = false
+breaks k (ask c t j b) (grant s i d end moves) = false
+breaks k (ask c t j b) (rest s moves) = false
+breaks k (ask c t j b) quiet = false
+breaks k (off t j) taken = eqb j k
+breaks k (off t j) (refused m) = false
+breaks k (off t j) (grant s i d end moves) = false
+breaks k (off t j) (rest s moves) = false
+breaks k (off t j) quiet = false
+breaks k (reserve t j n b) answer = false
+breaks k (until t) answer = false
+breaks k (step t) answer = false
 
 abbrev pub came : Grant → Bool
 came none = false
 came (granted c s) = true
 
--- Kept standing: no accepted normal, high or off of k in the calls `since` before the grant to k, or to their end if none comes
+-- Kept standing: no accepted normal or off of k in the calls `since` before the grant to k, or to their end if none comes
 unfoldable pub keptStanding : ℕ → List Entry → Bool
 keptStanding k [] = true
-keptStanding k (e ∷ since) = keptStanding k since && (came (firstGrant k since) || not (changes k (e .call) (e .answer)))
+keptStanding k (e ∷ since) = keptStanding k since && (came (firstGrant k since) || not (breaks k (e .call) (e .answer)))
 
 -- the time up to which k waits: the grant's, or the clock if none comes
 abbrev pub waitsTo : Grant → ℕ → ℕ
@@ -96,7 +98,8 @@ module _ (p : Plan) (k t : ℕ) (whole : List Entry) where
   abbrev pub farEnough : ℕ
   farEnough = latestGrant + 1
 
-  -- node k puts up a high request at t: an accepted high with `before` what came before it, and `since` what came since
+  -- Node k puts up a high request at t: an accepted high with `before` what came before it, and `since` what came since.
+  -- A later high of k in the stand only replaces the packet, and the limit counts from the first
   pub record PutUp : Type 0 where
     pub bits : ℕ
     pub since : List Entry
@@ -104,7 +107,7 @@ module _ (p : Plan) (k t : ℕ) (whole : List Entry) where
     pub place : whole ≡ since ++ (record { call = ask high t k bits; answer = taken } ∷ before)
     -- with fewer than n high grants of k in that frame before
     pub left : length (highGrants p k (frameOf p t) before) < packetsThen
-    -- it is kept standing
+    -- it is kept standing, perhaps replaced by other high ones
     pub stands : keptStanding k since ≡ true
     -- no change comes into force: in each frame from the request's up to the last
     -- one of the wait, every node has reserved what it has in the request's

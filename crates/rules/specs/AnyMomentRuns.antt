@@ -1,6 +1,6 @@
--- Lists worked out by hand for request 5 of document 02, on document 01's plan: two in which the request
--- waits just as long as it may, in one of them over a frame's start; one in which other nodes ask again and
--- again; and five in which one premise fails, and the grant comes too late, not at all, or in class normal.
+-- Lists worked out by hand for request 5 of document 02, on document 01's plan: three in which the request waits just as
+-- long as it may, in two of them over a frame's start, and replaced three times in one of these; one in which other nodes
+-- ask again and again; and five in which one premise fails, and the grant comes too late, not at all, or in class normal.
 use Prim.Native.Nat.{ℕ, _+_, _-_}
 use mathlib.Core.Path.{_≡_}
 use mathlib.Core.Bool.{Bool, true, false, not, _&&_, _||_}
@@ -154,6 +154,38 @@ full-wait-across =
           };
     }
 
+-- The same wait from 195,000 on, with a packet of 1,000 first. While it stands, node 4 puts a longer one in its place, in
+-- frame 2 a shorter one, and as its turn comes a longer one again, which is sent. The limit is the first one's, 220,000
+abbrev pub replaced-wait : Worked
+replaced-wait =
+    record {
+      plan = plan01;
+      node = 4;
+      time = 195000;
+      bits = 1000;
+      calls =
+          reserves
+          ++ (reserve 0 4 1 2000 ∷ ask normal 195000 2 12000 ∷ step 300000 ∷ ask high 195000 4 1000
+          ∷ ask high 195000 1 4000 ∷ ask high 197000 4 2000 ∷ ask high 200000 2 3000 ∷ ask high 205000 4 512 ∷ ask high 208000 3 2000
+          ∷ step 300000 ∷ step 300000 ∷ step 300000 ∷ ask high 220000 4 2000 ∷ step 300000 ∷ step 300000 ∷ []);
+      behind = 11;
+      expected =
+          record {
+            told =
+                taken ∷ taken ∷ taken ∷ taken
+                ∷ taken ∷ taken ∷ grant 195000 2 normal 208000 1 ∷ taken
+                ∷ taken ∷ taken ∷ taken ∷ taken ∷ taken
+                ∷ grant 208000 1 high 213000 1 ∷ grant 213000 2 high 217000 1 ∷ grant 217000 3 high 220000 0
+                ∷ taken ∷ grant 220000 4 high 223000 1 ∷ rest 223000 0 ∷ [];
+            left = true;
+            stands = true;
+            unchanged = true;
+            run = true;
+            grant = granted high 220000;
+            limit = 220000;
+          };
+    }
+
 -- Nodes 2 and 3 ask again behind each of their grants, in frame 1 and in frame 2, and have
 -- packets left in both. Each goes before node 1 once all the same: the pointer goes round once
 abbrev pub passed-once : Worked
@@ -235,7 +267,7 @@ withdrawn =
           };
     }
 
--- A normal request takes its place
+-- A normal request of its node takes its place
 abbrev pub asked-normal : Worked
 asked-normal =
     record {
@@ -315,7 +347,9 @@ not-run =
     }
 
 abbrev pub worked-waits : List Worked
-worked-waits = full-wait ∷ full-wait-across ∷ passed-once ∷ share-spent ∷ withdrawn ∷ asked-normal ∷ more-reserved ∷ not-run ∷ []
+worked-waits =
+    full-wait ∷ full-wait-across ∷ replaced-wait ∷ passed-once
+    ∷ share-spent ∷ withdrawn ∷ asked-normal ∷ more-reserved ∷ not-run ∷ []
 
 -- row by row
 abbrev pub AllRight : List Worked → Type 0

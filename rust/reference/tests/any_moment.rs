@@ -31,6 +31,8 @@ struct Wait {
     others: u64,
     limit: u64,
     grant: Option<(Class, u64)>,
+    /// Another high request of its node took its place at a later time.
+    replaced: bool,
 }
 
 impl Wait {
@@ -99,17 +101,15 @@ impl<'a> Words<'a> {
         if !self.run_above(limit) {
             return None;
         }
-        let mut grant = None;
+        let (mut grant, mut replaced) = (None, false);
         for &(call, answer) in &self.list[i + 1..] {
             match (call, answer) {
                 (_, Answer::Grant { time, node, class, .. }) if node == k => {
                     grant = Some((class, time));
                     break;
                 }
-                (
-                    Call::Normal { k: j, .. } | Call::High { k: j, .. } | Call::Off { k: j, .. },
-                    Answer::Taken,
-                ) if j == k => return None,
+                (Call::Normal { k: j, .. } | Call::Off { k: j, .. }, Answer::Taken) if j == k => return None,
+                (Call::High { t: later, k: j, .. }, Answer::Taken) if j == k => replaced |= later > t,
                 _ => {}
             }
         }
@@ -121,7 +121,7 @@ impl<'a> Words<'a> {
         };
         let settled = self.list.iter().filter_map(changes).max().unwrap_or(0).max(f);
         let unchanged = (f..=last.min(settled)).all(|later| self.reserved(later) == shares);
-        unchanged.then_some(Wait { put_up: t, others, limit, grant })
+        unchanged.then_some(Wait { put_up: t, others, limit, grant, replaced })
     }
 }
 
@@ -141,8 +141,12 @@ struct Met {
     /// these over a frame's start.
     met: u64,
     met_across: u64,
-    /// Granted later, in class normal or not at all.
+    /// The request was replaced later, and of these granted at the limit of the first.
+    replaced: u64,
+    met_replaced: u64,
+    /// Granted later, in class normal or not at all, and of these replaced.
     broken: u64,
+    broken_replaced: u64,
 }
 
 impl Met {
@@ -150,14 +154,19 @@ impl Met {
         let mut words = Words::new(plan, list);
         for i in 0..list.len() {
             let Some(wait) = words.wait(i) else { continue };
+            let replaced = u64::from(wait.replaced);
+            let broken = u64::from(!wait.kept());
             self.waits += 1;
-            self.broken += u64::from(!wait.kept());
+            self.replaced += replaced;
+            self.broken += broken;
+            self.broken_replaced += broken * replaced;
             if let Some((_, time)) = wait.grant {
                 let across = u64::from(time / plan.frame > wait.put_up / plan.frame);
                 let met = u64::from(time == wait.limit && wait.others > 0);
                 self.across += across;
                 self.met += met;
                 self.met_across += met * across;
+                self.met_replaced += met * replaced;
             }
         }
     }
@@ -195,7 +204,8 @@ impl<H: Calls> Desk<H> {
 }
 
 /// Near the end of each frame a packet begins that nobody reserved, and many nodes
-/// ask at once, some of them again behind each of their grants.
+/// ask at once, some of them again while they wait, with a packet of another length,
+/// or behind their grants.
 fn near_frame_ends<H: Calls>(plan: &Plan, random: &mut Random, hub: H) -> Vec<(Call, Answer)> {
     let mut desk = Desk { hub, list: Vec::new() };
     let nodes = plan.nodes as u64;
@@ -224,8 +234,11 @@ fn near_frame_ends<H: Calls>(plan: &Plan, random: &mut Random, hub: H) -> Vec<(C
         }
         for _ in 0..random.below(2 * nodes) {
             if let Answer::Grant { time, node, .. } = desk.call(Call::Step { t: start + 2 * plan.frame }) {
-                if random.chance(50) {
-                    desk.call(Call::High { t: time, k: node, b: lengths[node as usize - 1] });
+                for k in [node, random.within(1..=nodes)] {
+                    if random.chance(50) {
+                        let b = random.within_or_end(512..=lengths[k as usize - 1]);
+                        desk.call(Call::High { t: time, k, b });
+                    }
                 }
             }
         }
@@ -269,13 +282,14 @@ fn every_wait_ends_by_its_limit() {
     let met = lists(0..10_000, 400, control);
     assert_eq!(met.broken, 0, "{met:?}");
     assert!(met.waits > 300_000 && met.across > 10_000 && met.met > 1_000 && met.met_across > 500, "{met:?}");
+    assert!(met.replaced > 5_000 && met.met_replaced > 200, "{met:?}");
 }
 
 /// By the lowest node always, k waits for as long as a lower one asks.
 #[test]
 fn an_unfair_hub_breaks_it() {
     let met = lists(0..300, 400, |plan| Hub::new(plan, Lowest(plan.nodes)));
-    assert!(met.broken > 20, "{met:?}");
+    assert!(met.broken > 20 && met.broken_replaced > 20, "{met:?}");
 }
 
 /// A line of the log as a step's answer.

@@ -14,11 +14,12 @@ use Rattle.rules.specs.Core.{Core, Share, bitsOf, frameOf, advance, coun
 use Rattle.rules.specs.Machine.{Machine, Hub, Outcome}
 use Rattle.rules.specs.Rows.{accept, firstRow, rows, change}
 use Rattle.rules.specs.Run.{Entry}
-use Rattle.rules.specs.AnyMoment.{none, granted, grantBy, firstGrant, changes, came, keptStanding, waitLimit}
+use Rattle.rules.specs.AnyMoment.{none, granted, grantBy, firstGrant, breaks, came, keptStanding, waitLimit}
 use Rattle.rules.proofs.Laws.Passes.{any-intro, and-both}
 use Rattle.rules.proofs.Laws.Clash.{clash}
 use Rattle.rules.proofs.Flat.Follows.{Follows}
 use Rattle.rules.proofs.Core.CallCases.{Event, asking, leaving, reserving, waiting, not-due, Course, refusal, event, quietly, granting, resting as rested}
+use Rattle.rules.proofs.Core.Acceptance.{acceptable}
 use Rattle.rules.proofs.Core.Instants.{advanced}
 use Rattle.rules.proofs.Flat.Turns.{Pointed, node-counts, node-chosen, pointed-turn, pointers-turn}
 use Rattle.rules.proofs.Core.ClockAdvance.{advance-clock}
@@ -45,21 +46,21 @@ event-none k (leaving t j) = refl
 event-none k (reserving t j n b) = refl
 event-none k (waiting t) = refl
 
--- of a request kept standing: an event while it has no grant doesn't change it
+-- of a request kept standing: an event while it has no grant doesn't break its stand
 kept-by : (k : ℕ) (call : Call) (since : List Entry) → firstGrant k since ≡ none → keptStanding k (entry call taken ∷ since) ≡ true
-    → changes k call taken ≡ false
+    → breaks k call taken ≡ false
 unfolding keptStanding
 kept-by k call since n e =
-    let h = and-both (keptStanding k since) (came (firstGrant k since) || not (changes k call taken)) e .1 in
-    let q : not (changes k call taken) ≡ true = rw n at h in
-    not-true (changes k call taken) q
+    let h = and-both (keptStanding k since) (came (firstGrant k since) || not (breaks k call taken)) e .1 in
+    let q : not (breaks k call taken) ≡ true = rw n at h in
+    not-true (breaks k call taken) q
 
-module _ (p : Plan) (fig : Figures p) (M : Machine) (follows : Follows p M) (k start b : ℕ) (w : Within (p .nodes) k) (R : ℕ → Share) where
+module _ (p : Plan) (fig : Figures p) (M : Machine) (follows : Follows p M) (k start : ℕ) (w : Within (p .nodes) k) (R : ℕ → Share) where
   -- k waits; the high grants of each node since the request are counted beside the hub
   pub record Waits (h : Hub (M .State)) : Type 0 where
     pub since-start : ℕ → ℕ
     pub pointed : Pointed p M follows (h .turn)
-    pub waiting : Waiting p k start b R since-start (h .core) (pointed .pointers high)
+    pub waiting : Waiting p k start R since-start (h .core) (pointed .pointers high)
 
   -- k still waits, or it was granted in time
   pub data Progress (since : List Entry) (h : Hub (M .State)) : Type 0 where
@@ -78,11 +79,11 @@ module _ (p : Plan) (fig : Figures p) (M : Machine) (follows : Follows p M) (k s
     Unchanged t = frameOf p (h .core .clock) < frameOf p t → (j : ℕ) → Within (p .nodes) j → h .core .latest j ≡ R j
 
     due-soon : DueBefore p (h .core) (reach p start R G + 1)
-    due-soon = waiting-due p k start b R G (h .core) a (x .waiting) w
+    due-soon = waiting-due p k start R G (h .core) a (x .waiting) w
 
     on : (t : ℕ) → t ≤ reach p start R G → Unchanged t
-        → Waiting p k start b R G (advance p t (h .core)) a
-    on t soon same = advance-waits p k start b R G (h .core) a (x .waiting) t soon same w (advanced p t (h .core))
+        → Waiting p k start R G (advance p t (h .core)) a
+    on t soon same = advance-waits p k start R G (h .core) a (x .waiting) t soon same w (advanced p t (h .core))
 
     keep-event : (call : Call) → Event call → firstRow (rows p (h .core) call) ≡ accept → Unchanged (time call)
         → keptStanding k (entry call taken ∷ since) ≡ true
@@ -95,19 +96,19 @@ module _ (p : Plan) (fig : Figures p) (M : Machine) (follows : Follows p M) (k s
           since-start = x .since-start;
           pointed = x .pointed;
           waiting =
-              change-waits p k start b R G (advance p (time call) (h .core)) a
-              (on (time call) (omega arith) same) e (kept-by k call since n stands);
+              change-waits p k start R G (h .core) a w (acceptable p (h .core) e r)
+              (on (time call) (omega arith) same) (kept-by k call since n stands);
         })
 
     module _ (d : ℕ) (e : due p (h .core) ≡ at d) (same : Unchanged d) where
       soon : d ≤ reach p start R G
       soon = omega (arith, handled-before p (h .core) (reach p start R G + 1) d due-soon e)
 
-      here : Waiting p k start b R G (advance p d (h .core)) a
+      here : Waiting p k start R G (advance p d (h .core)) a
       here = on d soon same
 
       counts : countsIn high (advance p d (h .core)) k ≡ true
-      counts = waiting-counts p k start b R G (advance p d (h .core)) a here w
+      counts = waiting-counts p k start R G (advance p d (h .core)) a here w
 
       -- the turn is given in class high, to k or to a node ahead of it
       keep-turn : (t : ℕ) → Progress (entry (step t) (turnAt p M d high (advance p d (h .core)) (h .turn) .answer) ∷ since)
@@ -132,7 +133,7 @@ module _ (p : Plan) (fig : Figures p) (M : Machine) (follows : Follows p M) (k s
 
           now : Moment p k start R G s a
           now =
-              waiting-moment p k start b R G s a here w (instant-sound p fig M follows h ok d e)
+              waiting-moment p k start R G s a here w (instant-sound p fig M follows h ok d e)
               (omega (arith, advance-clock p d (h .core), soon))
 
           in-reach : end ≤ reach p start R (more G node)
@@ -146,7 +147,7 @@ module _ (p : Plan) (fig : Figures p) (M : Machine) (follows : Follows p M) (k s
           go : Next p k G node
               → Progress (entry (step t) (turnAt p M d high s (h .turn) .answer) ∷ since) (turnAt p M d high s (h .turn) .hub)
           go (own q) =
-              served d (rw (n, eq-eqb node k q)) (omega (arith, soon, within-limit p k start b R G s a here))
+              served d (rw (n, eq-eqb node k q)) (omega (arith, soon, within-limit p k start R G s a here))
           go (nearer q first fair) =
               waits (rw (n, ne-eqb node k (λ i. q (sym i))))
               (record {
@@ -154,7 +155,7 @@ module _ (p : Plan) (fig : Figures p) (M : Machine) (follows : Follows p M) (k s
                 pointed = pointed-turn p M follows (h .turn) (x .pointed) high (countsIn high s) some;
                 waiting =
                     rw (pointers-turn p M follows (h .turn) (x .pointed) high (countsIn high s) some)
-                    (grant-waits p k start b R G s a here w node end q first fair
+                    (grant-waits p k start R G s a here w node end q first fair
                     (node-counts p M follows (h .turn) (x .pointed) high (countsIn high s) some) in-reach);
               })
 

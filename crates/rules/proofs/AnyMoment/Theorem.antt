@@ -99,7 +99,7 @@ module _ (p : Plan) (fig : Figures p) (M : Machine) (follows : Follows p M) (som
     held-here (busy e) q = until-end e (omega (arith, clock-here, sound p fig M follows some asked .end-soon e q, fig .interrupt-low))
     held-here resting q = at-rest (omega (arith, clock-here)) refl
 
-    at-first : Progress p fig M follows k t b node R [] (made p M asked .hub)
+    at-first : Progress p fig M follows k t node R [] (made p M asked .hub)
     unfolding firstGrant
     at-first =
         let at-place = good p fig M follows some asked in
@@ -110,8 +110,7 @@ module _ (p : Plan) (fig : Figures p) (M : Machine) (follows : Follows p M) (som
           pointed = at-place .pointed;
           waiting =
               record {
-                stands = stands-here;
-                fits = omega (arith, at-place .sound .allowed k b stands-here .fits);
+                stands = record { bits = b; is = stands-here; fits = omega (arith, at-place .sound .allowed k b stands-here .fits) };
                 left = left-here;
                 force = λ j v. force-here j;
                 fair = zero-fair k (at-place .pointed .pointers high);
@@ -134,25 +133,25 @@ module _ (p : Plan) (fig : Figures p) (M : Machine) (follows : Follows p M) (som
         ∙ sym (reserved-settled p fig M follows some call (newer ++ asked) j f (omega arith))
         ∙ u .unchanged j f v (omega arith) (omega arith)
 
-    progress : (newer : List Call) → Kept newer → Progress p fig M follows k t b node R (since newer) (made p M (newer ++ asked) .hub)
+    progress : (newer : List Call) → Kept newer → Progress p fig M follows k t node R (since newer) (made p M (newer ++ asked) .hub)
     unfolding made
     progress [] u = at-first
     progress (call ∷ newer) u =
         let h = made p M (newer ++ asked) .hub in
-        keep p fig M follows k t b node R (since newer) h (good p fig M follows some (newer ++ asked)) (course p M h call) (same-latest call newer u)
+        keep p fig M follows k t node R (since newer) h (good p fig M follows some (newer ++ asked)) (course p M h call) (same-latest call newer u)
         (u .stands) (progress newer (shorter p fig M follows some k asked call newer (frameOf p t) R u))
 
     -- where k still waits, the list is not run to the limit
     in-time : (newer : List Call) → RunTo (t + waitLimit p k R + 1) (made p M (newer ++ asked) .past)
-        → Progress p fig M follows k t b node R (since newer) (made p M (newer ++ asked) .hub)
+        → Progress p fig M follows k t node R (since newer) (made p M (newer ++ asked) .hub)
         → (s : ℕ) × (firstGrant k (since newer) ≡ granted high s) × (s ≤ t + waitLimit p k R)
     in-time newer run (served s g l) = (s, g, l)
     in-time newer run (waits n x) =
         let core = made p M (newer ++ asked) .hub .core in
         let G = x .since-start in
         let a = x .pointed .pointers high in
-        let limit = within-limit p k t b R G core a (x .waiting) in
-        let soon = waiting-due p k t b R G core a (x .waiting) node in
+        let limit = within-limit p k t R G core a (x .waiting) in
+        let soon = waiting-due p k t R G core a (x .waiting) node in
         let late = due-late p fig core (sound p fig M follows some (newer ++ asked)) (soon .time) (soon .is) in
         absurd
         (not-run-to p fig M follows some (newer ++ asked) (t + waitLimit p k R + 1) (omega (arith, soon .soon))

@@ -1,26 +1,25 @@
--- A high request that node k put up at `start` and that has no grant yet: it counts, in every frame
--- that the clock comes to, and of the other nodes each has had at most one high grant since. Nothing
+-- A high request that node k put up at `start` and that has no grant yet, or a later high one in its place: it counts,
+-- in every frame that the clock comes to, and of the other nodes each has had at most one high grant since. Nothing
 -- here asks whether a frame's start lies between: G counts from `start` on, whatever the core counts.
 use Prim.Native.Nat.{ℕ, _+_, _*_, _≤_, _<_}
-use mathlib.Core.Path.{_≡_, refl, sym, ap, _∙_}
+use mathlib.Core.Path.{_≡_, refl, sym, ap, _∙_, subst}
 use mathlib.Core.Bool.{true, false}
 use native.Mathlib.Omega.{arith}
 use native.Mathlib.Nat.{mul-le-mul-right}
-use lib.Dec.{eqb}
 use borrow.Author.Tests.{eq-eqb, ne-eqb, eqb-false}
 use Rattle.rules.specs.Choice.{put}
 use Rattle.rules.specs.Plan.{Plan}
 use Rattle.rules.specs.Drawn.{Within}
-use Rattle.rules.specs.Call.{high, Call, taken}
-use Rattle.rules.specs.Core.{Core, Request, none, standing, Share, frameOf, reclassed, countsIn}
+use Rattle.rules.specs.Call.{normal, high, Call, time, taken}
+use Rattle.rules.specs.Core.{Core, Request, none, standing, Share, frameOf, advance, reclassed, countsIn}
 use Rattle.rules.specs.Machine.{granting}
 use Rattle.rules.specs.Flat.{behind}
 use Rattle.rules.specs.Rows.{change}
 use Rattle.rules.specs.Words.{Keeps}
-use Rattle.rules.specs.AnyMoment.{changes, waitPart, waitLimit}
+use Rattle.rules.specs.Promises.{Acceptable, asks, leaves, reserves, waits}
+use Rattle.rules.specs.AnyMoment.{breaks, waitPart, waitLimit}
 use Rattle.rules.proofs.Laws.Passes.{sum-mono, put-other}
 use Rattle.rules.proofs.Core.EventChanges.{kept-by-change}
-use Rattle.rules.proofs.Core.CallCases.{Event, asking, leaving, reserving, waiting}
 use Rattle.rules.proofs.Core.Instants.{Advanced, across, inside}
 use Rattle.rules.proofs.Core.Requests.{Start, stays-high, becomes-normal, start-of, counts-left, put-all}
 use Rattle.rules.proofs.Core.Sound.{Sound}
@@ -39,10 +38,15 @@ kept-high r b h = go (start-of r b)
     go (becomes-normal n) = absurd (n h)
 
 -- R is what is reserved, and in force, in every frame of the wait
-module _ (p : Plan) (k start b : ℕ) (R : ℕ → Share) where
+module _ (p : Plan) (k start : ℕ) (R : ℕ → Share) where
+  -- a high request of a length that k's reservation allows, whichever high of k put it up
+  pub record FittingHigh (q : Request) : Type 0 where
+    pub bits : ℕ
+    pub is : q ≡ standing high bits
+    pub fits : bits ≤ R k .bits
+
   pub record Waiting (G : ℕ → ℕ) (s : Core) (a : ℕ) : Type 0 where
-    pub stands : s .request k ≡ standing high b
-    pub fits : b ≤ R k .bits
+    pub stands : FittingHigh (s .request k)
     pub left : s .granted k < R k .packets
     pub force : (j : ℕ) → Within (p .nodes) j → s .force j ≡ R j
     pub fair : Fair k G a
@@ -73,7 +77,6 @@ module _ (p : Plan) (k start b : ℕ) (R : ℕ → Share) where
     advance-waits t soon same w (inside l) =
         record {
           stands = x .stands;
-          fits = x .fits;
           left = x .left;
           force = x .force;
           fair = x .fair;
@@ -82,9 +85,10 @@ module _ (p : Plan) (k start b : ℕ) (R : ℕ → Share) where
           held = held-on soon (x .held);
         }
     advance-waits t soon same w (across l) =
+        let b = x .stands .bits in
+        let keeps : Keeps (R k) b = record { some = omega (arith, x .left); fits = x .stands .fits } in
         record {
-          stands = rw (x .stands, same l k w) (kept-high (R k) b (record { some = omega (arith, x .left); fits = x .fits }));
-          fits = x .fits;
+          stands = record { bits = b; is = rw (x .stands .is, same l k w) (kept-high (R k) b keeps); fits = x .stands .fits };
           left = omega (arith, x .left);
           force = same l;
           fair = x .fair;
@@ -93,41 +97,12 @@ module _ (p : Plan) (k start b : ℕ) (R : ℕ → Share) where
           held = held-on soon (x .held);
         }
 
-    -- an event changes another node's request, or none
-    pub change-waits : {call : Call} → Event call → changes k call taken ≡ false → Waiting G (change call s) a
-    change-waits {call} event e =
-        record {
-          stands = stays event e;
-          fits = x .fits;
-          left = kept-by-change (λ t l g. g k < R k .packets) call s (x .left);
-          force = λ j v. same-force event j ∙ x .force j v;
-          fair = x .fair;
-          none-yet = x .none-yet;
-          within = x .within;
-          held = kept-by-change (λ t l g. Held (reach p start R G) t 0 l) call s (x .held);
-        }
-      where
-        another : (j : ℕ) (q : Request) → eqb j k ≡ false → put (s .request) j q k ≡ standing high b
-        another j q e = put-other (s .request) j q k (λ i. eqb-false j k e (sym i)) ∙ x .stands
-
-        stays : {c : Call} → Event c → changes k c taken ≡ false → change c s .request k ≡ standing high b
-        stays (asking c t j d) e = another j (standing c d) e
-        stays (leaving t j) e = another j none e
-        stays (reserving t j n d) e = x .stands
-        stays (waiting t) e = x .stands
-
-        same-force : {c : Call} → Event c → (j : ℕ) → change c s .force j ≡ s .force j
-        same-force (asking c t i d) j = refl
-        same-force (leaving t i) j = refl
-        same-force (reserving t i n d) j = refl
-        same-force (waiting t) j = refl
-
     module _ (w : Within (p .nodes) k) where
       -- so k's request counts, and an instant is due within the reach
       pub waiting-counts : countsIn high s k ≡ true
       waiting-counts =
           let n = ap (λ (r : Share). r .packets) (x .force k w) in
-          high-counts s k (record { bits = b; stands = x .stands }) (omega (arith, x .left))
+          high-counts s k (record { bits = x .stands .bits; stands = x .stands .is }) (omega (arith, x .left))
 
       pub waiting-due : DueBefore p s (reach p start R G + 1)
       waiting-due = held-due p s k w (reach p start R G) 0 (x .held) (λ l. waiting-counts)
@@ -147,8 +122,7 @@ module _ (p : Plan) (k start b : ℕ) (R : ℕ → Share) where
           → end ≤ reach p start R (more G j) → Waiting (more G j) (granting j high end s) (behind p j)
       grant-waits j end d first fair v soon =
           record {
-            stands = put-other (s .request) j none k d ∙ x .stands;
-            fits = x .fits;
+            stands = subst FittingHigh (sym (put-other (s .request) j none k d)) (x .stands);
             left = omega (arith, put-other (s .granted) j (s .granted j + 1) k d, x .left);
             force = x .force;
             fair = fair;
@@ -161,3 +135,44 @@ module _ (p : Plan) (k start b : ℕ) (R : ℕ → Share) where
           one =
               let n = ap (λ (r : Share). r .packets) (x .force j (v .within)) in
               omega (arith, first, x .none-yet, counts-left s j (v .holds))
+
+  -- An accepted event that doesn't break the stand, once the clock has come to its time: it changes another
+  -- node's request, or none, or puts another high one of k in place of the first, which row 16 lets fit
+  module _ (G : ℕ → ℕ) (s : Core) (a : ℕ) (w : Within (p .nodes) k) where
+    another : (c : Core) (j : ℕ) (q : Request) → FittingHigh (c .request k) → (j ≡ k → ⊥) → FittingHigh (put (c .request) j q k)
+    another c j q x d = subst FittingHigh (sym (put-other (c .request) j q k (λ i. d (sym i)))) x
+
+    replaced : (c : Core) (j b : ℕ) → c .force k ≡ R k → FittingHigh (c .request k) → b ≤ c .force j .bits → Same j k
+        → FittingHigh (put (c .request) j (standing high b) k)
+    replaced c j b same x fits (other d) = another c j (standing high b) x d
+    replaced c j b same x fits (it e) =
+        let in-force = ap (λ (r : Share). r .bits) (ap (c .force) e ∙ same) in
+        record { bits = b; is = rw (eq-eqb k j (sym e)); fits = omega arith }
+
+    stays : {call : Call} → Acceptable p s call → Waiting G (advance p (time call) s) a → breaks k call taken ≡ false
+        → FittingHigh (change call (advance p (time call) s) .request k)
+    stays (asks normal t j b ok) x e = another (advance p t s) j (standing normal b) (x .stands) (eqb-false j k e)
+    stays (asks high t j b ok) x e = replaced (advance p t s) j b (x .force k w) (x .stands) (ok .share refl .fits) (same-or-not j k)
+    stays (leaves t j o v) x e = another (advance p t s) j none (x .stands) (eqb-false j k e)
+    stays (reserves t j n b ok) x e = x .stands
+    stays (waits t o) x e = x .stands
+
+    same-force : {call : Call} → Acceptable p s call → (c : Core) (j : ℕ) → change call c .force j ≡ c .force j
+    same-force (asks d t i b ok) c j = refl
+    same-force (leaves t i o v) c j = refl
+    same-force (reserves t i n b ok) c j = refl
+    same-force (waits t o) c j = refl
+
+    pub change-waits : {call : Call} → Acceptable p s call → Waiting G (advance p (time call) s) a → breaks k call taken ≡ false
+        → Waiting G (change call (advance p (time call) s)) a
+    change-waits {call} ok x e =
+        let now = advance p (time call) s in
+        record {
+          stands = stays ok x e;
+          left = kept-by-change (λ t l g. g k < R k .packets) call now (x .left);
+          force = λ j v. same-force ok now j ∙ x .force j v;
+          fair = x .fair;
+          none-yet = x .none-yet;
+          within = x .within;
+          held = kept-by-change (λ t l g. Held (reach p start R G) t 0 l) call now (x .held);
+        }
