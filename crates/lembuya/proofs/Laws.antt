@@ -11,37 +11,55 @@ use Rattle.writer.specs.declared.Put.the-variants.{Behind, Short}
 use Rattle.writer.specs.Write.{putNumber, putAnswer, putRow}
 use Rattle.writer.proofs.Writes.{put-told}
 use Rattle.cells.specs.declared.Step.{Step}
+use Rattle.cells.specs.declared.Step.the-variants as step
 use Rattle.cells.specs.Calls.{stepBy, stepAnswer, performBy}
 use Rattle.call_list.specs.Table.{Six, sixOf, putSix}
 use Rattle.call_list.proofs.Numbers.{stepSix, step-six}
-use Rattle.lembuya.specs.Exports.{readNumber, putTold, putEnd}
+use Rattle.lembuya.specs.Exports.{readNumber, putTold, putStep, putEnd}
 
 -- ---- a plan
 
 abbrev Told : List ℕ → Answer → ℕ → List ℕ → Type 0
 Told told x r z = (r ≡ readNumber x) × (z ≡ putTold x told)
 
-pub taken-told : (told : List ℕ) (nodes hubs at line : ℕ) {x : Answer} {z : List ℕ} → Taken nodes hubs at line ≡ x
-    → z ≡ set (set (set (set told 0 nodes) 1 hubs) 2 at) 3 line → Told told x 0 z
+pub taken-told : (told : List ℕ) (nodes hubs at line : ℕ) {x : Answer} {z : List ℕ} {l : ℕ} → Taken nodes hubs at line ≡ x
+    → z ≡ set (set (set (set told 0 nodes) 1 hubs) 2 at) 3 l → l ≡ line → Told told x 0 z
 unfolding readNumber putTold
-taken-told told nodes hubs at line e stored = (ap readNumber e, stored ∙ ap (λ (y : Answer). putTold y told) e)
+taken-told told nodes hubs at line e written same =
+    let z = set (set (set told 0 nodes) 1 hubs) 2 at in
+    (ap readNumber e, written ∙ ap (λ (n : ℕ). set z 3 n) same ∙ ap (λ (y : Answer). putTold y told) e)
 
-pub refused-told : (told : List ℕ) (line number : ℕ) {x : Answer} {z : List ℕ} → Refused line number ≡ x
-    → z ≡ set (set (set (set told 0 0) 1 0) 2 0) 3 line → Told told x number z
+pub refused-told : (told : List ℕ) (line number : ℕ) {x : Answer} → Refused line number ≡ x → Told told x number (set told 3 line)
 unfolding readNumber putTold
-refused-told told line number e stored = (ap readNumber e, stored ∙ ap (λ (y : Answer). putTold y told) e)
+refused-told told line number e = (ap readNumber e, ap (λ (y : Answer). putTold y told) e)
 
 -- ---- a step
 
--- the numbers stored of a step's answer x, and the cells left, are those of the step
+-- what a step's answer x leaves, where y are its six numbers
+unfoldable pub stored : Step → Six → List ℕ → List ℕ
+stored (step.Grant time node class end moves) y answer = putSix 0 y answer
+stored (step.Rest time moves) y answer = putSix 0 y answer
+stored step.Quiet y answer = putSix 0 y answer
+stored (step.Refused n) y answer = answer
+
+put-stored : (x : Step) (answer : List ℕ) → stored x (sixOf (stepAnswer x)) answer ≡ putStep x answer
+unfolding stored putStep
+put-stored (step.Grant time node class end moves) answer = refl
+put-stored (step.Rest time moves) answer = refl
+put-stored step.Quiet answer = refl
+put-stored (step.Refused n) answer = refl
+
+-- the number of a step's answer x, what is stored of it and the cells left are those of the step
 pub stepped : (P : List ℕ) (t : ℕ) (s answer : List ℕ) {x : Step} {r : ℕ} {z ans : List ℕ} → x ≡ stepBy P t s .answer
-    → z ≡ stepBy P t s .cells → ans ≡ putSix 0 (stepSix x) answer → r ≡ stepSix x .number
+    → z ≡ stepBy P t s .cells → ans ≡ stored x (stepSix x) answer → r ≡ stepSix x .number
     → (r ≡ sixOf (stepAnswer (stepBy P t s .answer)) .number)
-    × ((ans ≡ putSix 0 (sixOf (stepAnswer (stepBy P t s .answer))) answer) × (z ≡ stepBy P t s .cells))
+    × ((ans ≡ putStep (stepBy P t s .answer) answer) × (z ≡ stepBy P t s .cells))
 unfolding performBy
-stepped P t s answer e cells stored number =
+stepped P t s answer {x} e cells left number =
     let w = sym (step-six P t s e) in
-    (number ∙ ap (λ (y : Six). y .number) w, (stored ∙ ap (λ (y : Six). putSix 0 y answer) w, cells))
+    let six = w ∙ ap (λ (y : Step). sixOf (stepAnswer y)) (sym e) in
+    let ans = left ∙ ap (λ (y : Six). stored x y answer) six ∙ put-stored x answer ∙ ap (λ (y : Step). putStep y answer) e in
+    (number ∙ ap (λ (y : Six). y .number) w, (ans, cells))
 
 -- ---- a run
 

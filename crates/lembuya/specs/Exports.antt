@@ -4,6 +4,10 @@ use mathlib.Core.List.{List}
 use lib.ListN.{set}
 use Rattle.plan.specs.declared.Answer.{Answer}
 use Rattle.plan.specs.declared.Answer.the-variants.{Taken, Refused}
+use Rattle.cells.specs.declared.Step.{Step}
+use Rattle.cells.specs.declared.Step.the-variants as step
+use Rattle.cells.specs.Calls.{stepAnswer}
+use Rattle.call_list.specs.Table.{sixOf, putSix}
 use Rattle.writer.specs.declared.Put.{Put}
 use Rattle.writer.specs.declared.Put.the-variants.{Behind, Short}
 
@@ -12,10 +16,16 @@ unfoldable pub readNumber : Answer → ℕ
 readNumber (Taken nodes hubs at line) = 0
 readNumber (Refused line number) = number
 
--- nodes, hubs, where the events start and on which line; of a refused plan its line alone
+-- nodes, hubs, where the events start and on which line; a refused plan's line alone, and the rest stays
 unfoldable pub putTold : Answer → List ℕ → List ℕ
 putTold (Taken nodes hubs at line) s = set (set (set (set s 0 nodes) 1 hubs) 2 at) 3 line
-putTold (Refused line number) s = set (set (set (set s 0 0) 1 0) 2 0) 3 line
+putTold (Refused line number) s = set s 3 line
+
+-- a step's six numbers; a refused step writes none of them
+unfoldable pub putStep : Step → List ℕ → List ℕ
+putStep x s =
+    let six = putSix 0 (sixOf (stepAnswer x)) s in
+    elim x [ step.Grant time node class end moves ↦ six | step.Rest time moves ↦ six | step.Quiet ↦ six | step.Refused n ↦ s ]
 
 -- where a log ends; what was there where it didn't fit
 unfoldable pub putEnd : Put → List ℕ → List ℕ

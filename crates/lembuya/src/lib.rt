@@ -1,5 +1,6 @@
 // The hub for programs in C and Rust: include/lembuya.h has a comment for each function. No exported function has a `requires`:
 // each says its answer and all that it leaves, for every content of the tables and every length of the texts, lists and buffers.
+// A refusal leaves all that is lent as it was, but for a refused plan's line, which is told.
 use cells::Cascade;
 use cells::Step;
 use plan::Answer;
@@ -16,7 +17,7 @@ ghost use Rattle.call_list.specs.Table.{sixOf, putSix};
 ghost use Rattle.call_list.specs.Promise.{ListPromise};
 ghost use Rattle.log_spec.specs.Log.{logBytes};
 ghost use Rattle.log_spec.specs.Cells.{planLeft, cellsLeft};
-ghost use Rattle.lembuya.specs.Exports.{readNumber, putTold, putEnd};
+ghost use Rattle.lembuya.specs.Exports.{readNumber, putTold, putStep, putEnd};
 
 // What a plan's reader tells: nodes, hubs, where the events start and on which line.
 fn tell(told: &mut [u64; 4], nodes: u32, hubs: u32, at: usize, line: usize)
@@ -45,7 +46,7 @@ pub extern "C" fn lembuya_read(text: &[u8], plan: &mut Plan, told: &mut [u64; 4]
             0
         }
         Answer::Refused { line, number } => {
-            tell(told, 0, 0, 0, line);
+            told[3] = line as u64;
             number as u32
         }
     }
@@ -118,7 +119,7 @@ fn put_step(
 #[no_mangle]
 pub extern "C" fn lembuya_step(p: &Plan, s: &mut Cascade, t: u64, answer: &mut [u64; 6]) -> u32
     ensures { λ r. ⌜ r ≡ sixOf (stepAnswer (stepBy (now (p .entry)) t (now (s .entry)) .answer)) .number ⌝ }
-    ensures { λ r. ⌜ now (answer .exit) ≡ putSix 0 (sixOf (stepAnswer (stepBy (now (p .entry)) t (now (s .entry)) .answer))) (now (answer .entry)) ⌝ }
+    ensures { λ r. ⌜ now (answer .exit) ≡ putStep (stepBy (now (p .entry)) t (now (s .entry)) .answer) (now (answer .entry)) ⌝ }
     ensures { λ r. ⌜ now (s .exit) ≡ stepBy (now (p .entry)) t (now (s .entry)) .cells ⌝ }
 {
     match hub::step(p, s, t) {
@@ -131,7 +132,7 @@ pub extern "C" fn lembuya_step(p: &Plan, s: &mut Cascade, t: u64, answer: &mut [
         } => put_step(answer, 1, time, node, class, end, moves),
         Step::Rest { time, moves } => put_step(answer, 2, time, 0, 0, 0, moves),
         Step::Quiet => put_step(answer, 3, 0, 0, 0, 0, 0),
-        Step::Refused(n) => put_step(answer, n, 0, 0, 0, 0, 0),
+        Step::Refused(n) => n,
     }
 }
 

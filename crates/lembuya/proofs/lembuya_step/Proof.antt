@@ -1,7 +1,7 @@
--- `lembuya_step` meets its contract: the numbers of each case of what `hub::step` answers.
-use mathlib.Core.Path.{sym, _∙_}
+-- `lembuya_step` meets its contract: what is stored in each case of what `hub::step` answers; where it refuses, nothing.
+use mathlib.Core.Path.{refl, sym, _∙_}
 use Rattle.call_list.proofs.Numbers.{stepSix}
-use Rattle.lembuya.proofs.Laws.{stepped}
+use Rattle.lembuya.proofs.Laws.{stored, stepped}
 use borrow.Author.Needs.{needs}
 use Rattle.lembuya.proofs.lembuya_step.Statement.{statement}
 use Rattle.lembuya.proofs.lembuya_step.Tie as tie
@@ -30,11 +30,8 @@ put-step-requires-3 c κs = search needs
 enum-known-n : tie.Need-enum-known-n
 enum-known-n c = search needs
 
-put-step-requires-4 : tie.Need-put-step-requires-4
-put-step-requires-4 c κs = search needs
-
 returns : tie.Need-returns
-unfolding stepSix
+unfolding stepSix stored
 returns c =
     let a = c .before .before .before .before .before .before .before .args in
     let e = c .before .before .before .before .before .step .ensures in
@@ -42,7 +39,7 @@ returns c =
     stepped (a .p .now) (a .t) (a .s .now) (a .answer .now) (sym (c .before .before .before .time .given .1) ∙ e .0) (e .1) (w .0) (w .1)
 
 returns-2 : tie.Need-returns-2
-unfolding stepSix
+unfolding stepSix stored
 returns-2 c =
     let a = c .before .before .before .before .before .before .before .args in
     let e = c .before .before .before .before .before .step .ensures in
@@ -50,7 +47,7 @@ returns-2 c =
     stepped (a .p .now) (a .t) (a .s .now) (a .answer .now) (sym (c .before .before .before .time2 .given .1) ∙ e .0) (e .1) (w .0) (w .1)
 
 returns-3 : tie.Need-returns-3
-unfolding stepSix
+unfolding stepSix stored
 returns-3 c =
     let a = c .before .before .before .before .before .before .args in
     let e = c .before .before .before .before .step .ensures in
@@ -58,12 +55,11 @@ returns-3 c =
     stepped (a .p .now) (a .t) (a .s .now) (a .answer .now) (sym (c .before .before .enum-told .given .1) ∙ e .0) (e .1) (w .0) (w .1)
 
 returns-4 : tie.Need-returns-4
-unfolding stepSix
+unfolding stepSix stored
 returns-4 c =
-    let a = c .before .before .before .before .before .before .before .args in
-    let e = c .before .before .before .before .before .step .ensures in
-    let w = c .put-step4 .ensures in
-    stepped (a .p .now) (a .t) (a .s .now) (a .answer .now) (sym (c .before .before .before .n .given .1) ∙ e .0) (e .1) (w .0) (w .1)
+    let a = c .before .before .before .before .before .args in
+    let e = c .before .before .before .step .ensures in
+    stepped (a .p .now) (a .t) (a .s .now) (a .answer .now) (sym (c .before .n .given .1) ∙ e .0) (e .1) refl refl
 
 pub lembuya-step-spec : {M : Type 1} → statement M
 lembuya-step-spec =
@@ -77,7 +73,6 @@ lembuya-step-spec =
     enum-told
     put-step-requires-3
     enum-known-n
-    put-step-requires-4
     returns
     returns-2
     returns-3
