@@ -8,8 +8,11 @@
 -- (That an event is taken just where no row refuses it is Core.Acceptance, since the others need it.)
 -- Slips and TurningSlips: each wrong hub of "Slips of the turn list", and each wrong way to turn, is told from the
 -- right one by a worked run; and what the wrong hubs are made with is the right hub where nothing is got wrong.
+-- Rejected: each hub that document 01 wants rejected, nearest first, is told from the right one by a worked run
+-- on which demand 2 fails of it; of the quiet hub and of the one that repeats a node demand 3 fails too.
 pub mod Unchanged
 pub mod Admission
 pub mod NoTimeLost
 pub mod Slips
 pub mod TurningSlips
+pub mod Rejected

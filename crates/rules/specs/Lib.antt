@@ -19,5 +19,6 @@ pub mod Promises
 pub mod Sample
 pub mod Slips
 pub mod TurningSlips
+pub mod Rejected
 pub mod TravelRuns
 pub mod AnyMomentRuns
