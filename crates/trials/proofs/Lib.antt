@@ -1,3 +1,5 @@
 pub mod Table
 pub mod Travel
 pub mod AnyMoment
+pub mod Demand3Tests
+pub mod Demand3Runs

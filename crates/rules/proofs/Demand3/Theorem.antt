@@ -21,6 +21,7 @@ use Rattle.rules.proofs.Core.Places.{place, entries, entries-of}
 use Rattle.rules.proofs.Demand3.GrantsSoFar.{Facts, NextHigh, GrantsSoFar}
 use Rattle.rules.proofs.Demand3.FrameStart.{opened}
 use Rattle.rules.proofs.Demand3.RunTo.{not-run-to}
+use Rattle.rules.proofs.Demand3.Standing.{DueBefore}
 use Rattle.rules.proofs.Demand3.OneCall.{Finished, Unfinished, keep, finished-or-not}
 use Rattle.rules.proofs.Demand3.UnbrokenFrom.{at-start}
 
@@ -75,7 +76,8 @@ module _ (p : Plan) (fig : Figures p) (M : Machine) (follows : Follows p M) (cal
     turn-there : (a : List Call) (call : Call) (m : List Call) → calls ≡ a ++ (call ∷ m)
         → turnIn p f call (perform p M call (made p M m .hub) .answer) ≡ true → NextHigh p k f share (made p M m .past)
     unfolding made
-    turn-there a call m e = turns .high (entries p M a (call ∷ m)) _ (made p M m .past) (split a (call ∷ m) e)
+    turn-there a call m e turn low up =
+        turns .high (entries p M a (call ∷ m)) _ (made p M m .past) (split a (call ∷ m) e) turn (omega arith) (omega arith)
 
     run : (b a : List Call) → calls ≡ a ++ (b ++ earlier) → GrantsSoFar p M follows k f share (made p M earlier .past) (made p M earlier .hub)
         → GrantsSoFar p M follows k f share (made p M (b ++ earlier) .past) (made p M (b ++ earlier) .hub)
@@ -102,12 +104,19 @@ module _ (p : Plan) (fig : Figures p) (M : Machine) (follows : Follows p M) (cal
         (finished-or-not p fig M follows k f w share (made p M (newer ++ earlier) .past) (made p M (newer ++ earlier) .hub) (facts [] newer e)
         (run newer [] e (begin newer e)))
 
-  demand : Unbroken p k f whole → NextTurns p k f whole (share k .packets) → RunTo ((f + 1) * p .frame) whole → Demand3 p k f whole
-  demand unbroken turns ended =
+  -- the list may be run further than to the frame's end
+  demand : {time : ℕ} → Unbroken p k f whole → NextTurns p k f whole (share k .packets) → RunTo time whole → (f + 1) * p .frame ≤ time → Demand3 p k f whole
+  demand {time} unbroken turns ended far =
       let at = place p M calls (unbroken .since) (unbroken .before) (unbroken .place) in
-      ⊎-elim (λ done. record { exactly = done .exactly; in-time = done .in-time })
-      (λ left. absurd (not-run-to p fig M follows some calls ((f + 1) * p .frame) (left .clock) (left .due) ended))
+      ⊎-elim (λ done. record { exactly = done .exactly; in-time = omega (arith, done .in-time) })
+      (λ left. absurd (not-run-to p fig M follows some calls time (omega (arith, left .clock)) (later left) ended))
       (at-end unbroken turns (at .earlier) (at .past) (at .newer) (at .split))
+    where
+      later : Unfinished p f (made p M calls .hub .core) → DueBefore p (made p M calls .hub .core) time
+      later left = record { time = left .due .time; is = left .due .is; soon = omega (arith, left .due .soon) }
 
 pub demand3 : (p : Plan) (fig : Figures p) (M : Machine) → Follows p M → (calls : List Call) → Holds3 p (made p M calls .past)
-demand3 p fig M follows calls = record { demand = λ k f low up. demand p fig M follows calls k f (record { low = low; up = up }) }
+demand3 p fig M follows calls =
+    record {
+      demand = λ k f low up unbroken turns ended. demand p fig M follows calls k f (record { low = low; up = up }) unbroken turns ended (omega arith);
+    }
