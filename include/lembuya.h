@@ -21,7 +21,8 @@ extern "C" {
 #define LEMBUYA_PLAN_CELLS 1672
 #define LEMBUYA_CASCADE_CELLS 1160
 
-/* Numbers: 0 is done or taken; the others are those of document 01, "Where each no is said". */
+/* Numbers: 0 is done or taken; the others are those of document 01, "Where each no is said". A refusal leaves all that is lent as it was,
+ * but for a refused plan's line. */
 enum {
     LEMBUYA_OK = 0,
     /* a line is not the form allowed here, its LF is missing, or the text ends early; a call of no kind in a list */
@@ -38,7 +39,7 @@ enum {
     LEMBUYA_SHORT = 18      /* a lent buffer or table is too short: nothing is written there */
 };
 
-/* Cases of a step's answer, the first of its six numbers; any other is the number of the row that refused it. */
+/* Cases of an answer, the first of its six numbers and what a step returns; any other is the number of the row that refused it. */
 enum { LEMBUYA_TAKEN = 0, LEMBUYA_GRANT = 1, LEMBUYA_REST = 2, LEMBUYA_QUIET = 3 };
 
 /* Classes: 1 normal, 2 high. */
@@ -55,7 +56,7 @@ enum {
 };
 
 /* Reads the plan at the start of a text. Taken: 0, the plan's tables stand in `plan`, and `told` is nodes, hubs, the place where the
- * events start (byte) and its line number. Refused: its number, `told` is 0, 0, 0 and the line, and `plan` is as it was. */
+ * events start (byte) and its line number. Refused: its number, told[3] is the line, and the rest of `told` and `plan` are as they were. */
 uint32_t lembuya_read(const uint8_t *text, size_t length, uint32_t plan[LEMBUYA_PLAN_CELLS], uint64_t told[4]);
 
 /* The cascade's table before any event. It serves any plan. */
@@ -69,7 +70,7 @@ uint32_t lembuya_reserve(const uint32_t plan[LEMBUYA_PLAN_CELLS], uint32_t casca
 uint32_t lembuya_until(const uint32_t plan[LEMBUYA_PLAN_CELLS], uint32_t cascade[LEMBUYA_CASCADE_CELLS], uint64_t t);
 
 /* A step with bound t handles the due instant if it is strictly before t. Its answer is six numbers: the case (also returned), time, node,
- * class, end and moves; a number that its case doesn't have is 0. */
+ * class, end and moves; a number that its case doesn't have is 0. Refused: its number is returned, and `answer` is as it was. */
 uint32_t lembuya_step(const uint32_t plan[LEMBUYA_PLAN_CELLS], uint32_t cascade[LEMBUYA_CASCADE_CELLS], uint64_t t, uint64_t answer[6]);
 
 /* Many calls in one: `calls` has five numbers a call (kind, t, k, n, b; a number that its kind doesn't have is not looked at), and

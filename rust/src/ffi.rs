@@ -17,8 +17,8 @@ pub type Cascade = [u32; CASCADE_CELLS];
 
 extern "C" {
     /// Reads the plan at the start of a text. Taken: 0, the plan's table is filled, and `told` is
-    /// nodes, hubs, the byte where the events start and its line number. Refused: the number, `told`
-    /// is 0, 0, 0 and the line, and `plan` is as it was.
+    /// nodes, hubs, the byte where the events start and its line number. Refused: the number, the
+    /// last of `told` is the line, and its other numbers and `plan` are as they were.
     pub fn lembuya_read(text: *const u8, length: usize, plan: *mut Plan, told: *mut [u64; 4]) -> u32;
     /// Makes the cascade's table as it is before any event. It serves any plan.
     pub fn lembuya_fresh(cascade: *mut Cascade);
@@ -33,8 +33,8 @@ extern "C" {
     /// `(until t)`. Refused: the number, and no cell changes.
     pub fn lembuya_until(plan: *const Plan, cascade: *mut Cascade, t: u64) -> u32;
     /// A step with bound `t`. `answer` is its case, time, node, class (1 normal, 2 high), end and
-    /// moves, 0 where its case has none. The case, also returned, is 1 for a grant, 2 for a rest, 3
-    /// for quiet, and else the number that refused it; quiet and refused change no cell.
+    /// moves, 0 where its case has none. The case, also returned, is 1 for a grant, 2 for a rest and 3
+    /// for quiet. Refused: the number, and `answer` is as it was; quiet and refused change no cell.
     pub fn lembuya_step(plan: *const Plan, cascade: *mut Cascade, t: u64, answer: *mut [u64; 6]) -> u32;
     /// Many calls in one. `calls` has five numbers a call: its kind (1 normal, 2 high, 3 off, 4
     /// reserve, 5 until, 6 step), t, k, n and b, of which those that the kind lacks are not looked

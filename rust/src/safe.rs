@@ -8,7 +8,7 @@
 
 use crate::ffi::{self, Cascade, Plan};
 
-/// The number, and nodes, hubs, place and line.
+/// The number, and nodes, hubs, place and line; of a refused plan only the line is told.
 pub fn read(text: &[u8], plan: &mut Plan) -> (u32, [u64; 4]) {
     let mut told = [0; 4];
     // SAFETY: `text` is read for its length; `plan` and `told` are whole and borrowed mutably.
@@ -46,11 +46,13 @@ pub fn until(plan: &Plan, cascade: &mut Cascade, t: u64) -> u32 {
     unsafe { ffi::lembuya_until(plan, cascade, t) }
 }
 
-/// The answer's six numbers; their first is the case.
+/// The answer's six numbers; their first is the case, or the number of a refusal, which the archive
+/// only returns.
 pub fn step(plan: &Plan, cascade: &mut Cascade, t: u64) -> [u64; 6] {
     let mut answer = [0; 6];
     // SAFETY: both tables are whole; `cascade` and `answer` are borrowed mutably.
-    unsafe { ffi::lembuya_step(plan, cascade, t, &mut answer) };
+    let number = unsafe { ffi::lembuya_step(plan, cascade, t, &mut answer) };
+    answer[0] = number.into();
     answer
 }
 

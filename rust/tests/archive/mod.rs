@@ -101,7 +101,7 @@ pub fn answer(call: Call, six: [u64; 6]) -> Option<Answer> {
     }
 }
 
-/// What `lembuya_read` answers: its number and what it told.
+/// What `lembuya_read` answers: its number and what it told, which stays u64::MAX where it isn't told.
 pub fn read(text: &[u8], plan: &mut ffi::Plan) -> (u32, [u64; 4]) {
     let mut told = [u64::MAX; 4];
     let number = unsafe { ffi::lembuya_read(text.as_ptr(), text.len(), plan, &mut told) };
@@ -135,12 +135,15 @@ pub fn number_of(plan: &ffi::Plan, cascade: &mut ffi::Cascade, call: Call, six: 
 /// One call, as its six numbers.
 #[inline]
 pub fn single(plan: &ffi::Plan, cascade: &mut ffi::Cascade, call: Call) -> [u64; 6] {
-    let mut six = [u64::MAX; 6];
+    const UNTOLD: [u64; 6] = [u64::MAX; 6];
+    let mut six = UNTOLD;
     let number = u64::from(number_of(plan, cascade, call, &mut six));
-    if matches!(call, Call::Step { .. }) {
+    // A grant, a rest or quiet.
+    if matches!((call, number), (Call::Step { .. }, 1..=3)) {
         assert_eq!(number, six[0], "a step returns its case");
         return six;
     }
+    assert_eq!(six, UNTOLD, "a refused step leaves what it was lent");
     [number, 0, 0, 0, 0, 0]
 }
 

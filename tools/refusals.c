@@ -1,0 +1,96 @@
+/* What each function's refusal leaves, in C: all that is lent as it was, but for a refused plan's line. Status 1 where it isn't so.
+ * tools/callers builds and runs it. */
+#include <inttypes.h>
+#include <stdio.h>
+#include <string.h>
+
+#include "lembuya.h"
+
+/* All that a call is lent. */
+static struct lent {
+    uint32_t plan[LEMBUYA_PLAN_CELLS], hub[LEMBUYA_CASCADE_CELLS];
+    uint64_t told[4], answer[6], answers[6], end[1];
+    uint8_t log[16];
+} lent, expected;
+static int calls, wrong;
+
+/* A call is answered by this number, and what was lent to it is as expected. */
+#define IS(number, call) is(number, call, #call)
+static void is(uint32_t number, uint32_t answered, const char *call)
+{
+    int same = memcmp(&lent, &expected, sizeof lent) == 0;
+    calls++;
+    if (answered == number && same)
+        return;
+    printf("refusals: %s: %" PRIu32 " where %" PRIu32 " is due%s\n", call, answered, number, same ? "" : ", and what was lent is not as it should be");
+    memcpy(&lent, &expected, sizeof lent); /* the next call is judged by itself */
+    wrong = 1;
+}
+
+static uint32_t plan_of(const char *text)
+{
+    return lembuya_read((const uint8_t *)text, strlen(text), lent.plan, lent.told);
+}
+
+#define FIGURES "(frame 100000)\n(overhead 1000)\n(interrupt 13000)\n"
+#define PLAN FIGURES "(hub\n(node)\n)\n"
+
+static void plans(void)
+{
+    expected.told[3] = 1;
+    IS(LEMBUYA_FORM, plan_of(""));
+    IS(LEMBUYA_FIGURE, plan_of("(frame 1)\n"));
+    expected.told[3] = 5;
+    IS(LEMBUYA_LIMIT, plan_of(FIGURES "(hub\n)\n"));
+}
+
+/* From clock 10, where node 1's request is due. */
+static void events(void)
+{
+    IS(LEMBUYA_TIME, lembuya_normal(lent.plan, lent.hub, 9, 1, 512));
+    IS(LEMBUYA_NODE, lembuya_normal(lent.plan, lent.hub, 10, 2, 512));
+    IS(LEMBUYA_LENGTH, lembuya_normal(lent.plan, lent.hub, 10, 1, 511));
+    IS(LEMBUYA_UNRESERVED, lembuya_high(lent.plan, lent.hub, 10, 1, 512));
+    IS(LEMBUYA_DUE, lembuya_off(lent.plan, lent.hub, 11, 1));
+    IS(LEMBUYA_PACKETS, lembuya_reserve(lent.plan, lent.hub, 10, 1, 65, 512));
+    IS(LEMBUYA_FULL, lembuya_reserve(lent.plan, lent.hub, 10, 1, 64, 12000));
+    IS(LEMBUYA_DUE, lembuya_until(lent.plan, lent.hub, 11));
+}
+
+/* A refused step writes none of its six numbers. Quiet is no refusal and writes them, last here. */
+static void steps(void)
+{
+    static const uint64_t quiet[6] = { LEMBUYA_QUIET, 0, 0, 0, 0, 0 };
+    IS(LEMBUYA_TIME, lembuya_step(lent.plan, lent.hub, 9, lent.answer));
+    IS(LEMBUYA_TIME, lembuya_step(lent.plan, lent.hub, UINT64_C(1000000000000001), lent.answer));
+    memcpy(expected.answer, quiet, sizeof quiet);
+    IS(LEMBUYA_QUIET, lembuya_step(lent.plan, lent.hub, 10, lent.answer));
+}
+
+static void lists_and_runs(void)
+{
+    static const uint64_t off[5] = { LEMBUYA_CALL_OFF, 10, 1, 0, 0 }, no_kind[5] = { 7, 10, 1, 0, 0 };
+    IS(LEMBUYA_FORM, lembuya_list(lent.plan, lent.hub, off, 4, lent.answers, 6));
+    IS(LEMBUYA_FORM, lembuya_list(lent.plan, lent.hub, no_kind, 5, lent.answers, 6));
+    IS(LEMBUYA_SHORT, lembuya_list(lent.plan, lent.hub, off, 5, lent.answers, 5));
+    IS(LEMBUYA_SHORT, lembuya_run((const uint8_t *)PLAN, sizeof PLAN - 1, lent.plan, lent.hub, lent.log, sizeof lent.log, lent.end));
+}
+
+int main(void)
+{
+    memset(&lent, 0xa5, sizeof lent);
+    if (plan_of(PLAN) != LEMBUYA_OK)
+        return 1;
+    memset(lent.told, 0xa5, sizeof lent.told);
+    lembuya_fresh(lent.hub);
+    if (lembuya_normal(lent.plan, lent.hub, 10, 1, 512) != LEMBUYA_OK)
+        return 1;
+    memcpy(&expected, &lent, sizeof lent);
+    plans();
+    events();
+    steps();
+    lists_and_runs();
+    if (!wrong)
+        printf("refusals: %d calls, and what was lent is as it should be\n", calls);
+    return wrong;
+}
