@@ -7,7 +7,7 @@ use Rattle.plan.specs.declared.Answer.the-variants.{Refused}
 use Rattle.plan.specs.Reading.{reading, leaves}
 use Rattle.plan_theory.specs.Taken.{RefusedAt}
 use Rattle.plan_theory.proofs.Tree.Taken.{drawing-taken, taken-iff, refused-iff}
-use Rattle.plan_theory.proofs.First.{refused-decided}
+use Rattle.plan_theory.proofs.First.Theorem.{refused-decided}
 use Rattle.demands.specs.Demands.{PlanDemands}
 
 left-alone : (text : List ℕ) (line number : ℕ) → RefusedAt text line number → (plan : List ℕ) → leaves (reading text) plan ≡ plan

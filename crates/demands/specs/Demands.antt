@@ -48,7 +48,7 @@ pub record PlanDemands (text : List ℕ) : Type 0 where
   pub taken-for : (d : DrawnBy text) → TakenFor text (d .fig) (d .tree) (d .rest)
   -- every other text is refused
   pub refused-iff : ((line : ℕ) × (number : ℕ) × RefusedAt text line number) ↔ (DrawnBy text → ⊥)
-  -- the first line from above to which a row applies decides
+  -- the first line from above to which a row applies, then the first row, decides
   pub first-line : (line number : ℕ) → RefusedAt text line number → DecidedBy text line number
   -- Demand 1: a refused plan leaves the lent tables as they were
   pub refusal-changes-nothing : (line number : ℕ) → RefusedAt text line number → (plan : List ℕ) → leaves (reading text) plan ≡ plan

@@ -92,11 +92,14 @@ unfoldable mutual
   widthsIn close = true
   widthsIn (port x h) = widthsAt x && widthsIn h
 
--- the limits of the tree: 32 hubs, 1 to 32 ports in a hub, 1 to 256 nodes, 5 levels
+-- the limits that a line of the tree can pass: 32 hubs, 1 to 32 ports in a hub, 256 nodes, 5 levels
+unfoldable pub fits : Hub → Bool
+fits h =
+    wide h && widthsIn h && leb (hubsIn h) most-hubs && leb (nodesIn h) most-nodes && leb (levelsIn h) most-levels
+
+-- the limits of the tree: these, and at least one node, which only the whole plan can lack
 unfoldable pub limits : Hub → Bool
-limits h =
-    wide h && widthsIn h && leb (hubsIn h) most-hubs && leb 1 (nodesIn h) && leb (nodesIn h) most-nodes
-    && leb (levelsIn h) most-levels
+limits h = fits h && leb 1 (nodesIn h)
 
 -- T is 100,000 to 4,000,000, O is 0 to 50,000, D is 12,000 + O to T
 unfoldable pub goodFigures : Figures → Bool

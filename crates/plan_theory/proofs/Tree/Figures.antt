@@ -1,10 +1,12 @@
 -- The figures of a plan: their ranges as facts, and a figure's line read from its drawing. Assumes nothing.
 use Prim.Native.Nat.{ℕ, _+_, _≤_, _<_, _^_}
-use mathlib.Core.Path.{_≡_}
+use mathlib.Core.Path.{_≡_, refl}
 use mathlib.Core.Bool.{true, _&&_}
 use mathlib.Core.List.{List, [], _∷_}
+use native.Mathlib.Omega.{arith}
 use borrow.Author.Tests.{leb-true, le-leb}
 use lib.Dec.{leb}
+use lib.ListN.{length, getD}
 use Rattle.text.specs.Form.{drawForm, readForm}
 use Rattle.text.specs.declared.Cursor.{Cursor}
 use Rattle.text.proofs.Words.{both}
@@ -53,3 +55,9 @@ ranges-good fig r =
 pub figure-drawn : (word : List ℕ) (n low high : ℕ) (c : Cursor) (more : ℕ → Read) → low ≤ n → n ≤ high → n < 10 ^ 16
     → figure (readForm word 1 (drawForm word (n ∷ []))) low high c more ≡ more n
 figure-drawn word n low high c more a b small = rw (read-drawn word (n ∷ []) (small, tt), le-leb low n a, le-leb n high b)
+
+-- a list of one number
+pub one-number : (ns : List ℕ) → length ns ≡ 1 → ns ≡ getD ns 0 0 ∷ []
+one-number [] e = absurd (omega arith)
+one-number (a ∷ []) e = refl
+one-number (a ∷ b ∷ ns) e = absurd (omega arith)

@@ -10,12 +10,13 @@ use Rattle.text.specs.Form.{drawForm, readForm}
 use Rattle.text.proofs.Forms.{read-drawn}
 use Rattle.plan.specs.Words.{frame-word, overhead-word, interrupt-word}
 use Rattle.plan_tree.specs.Kind.{close-word, hub-word}
+use Rattle.plan.specs.Reading.{Figures}
 use Rattle.plan_theory.specs.Tree.{Port, node, empty, hub, Hub, close, port, drawPort, drawHub, draw}
 use Rattle.plan_theory.proofs.Tree.Figures.{good-ranges}
 use Rattle.plan_theory.specs.Taken.{DrawnBy}
 
 -- the words of a tree's lines have different lengths
-abbrev size : Lines → ℕ
+abbrev pub size : Lines → ℕ
 size nothing = 0
 size (unended l) = length l
 size (ended l rest) = length l
@@ -52,13 +53,22 @@ mutual
       let q = one-hub h k ls ks (p .1) in
       (cc, q .1)
 
-one-figure : (word : List ℕ) (a b : ℕ) → a < 10 ^ 16 → b < 10 ^ 16 → drawForm word (a ∷ []) ≡ drawForm word (b ∷ []) → a ≡ b
+pub one-figure : (word : List ℕ) (a b : ℕ) → a < 10 ^ 16 → b < 10 ^ 16 → drawForm word (a ∷ []) ≡ drawForm word (b ∷ []) → a ≡ b
 one-figure word a b p q e =
     let r : some (a ∷ []) ≡ some (b ∷ []) = sym (read-drawn word (a ∷ []) (p, tt)) ∙ ap (readForm word 1) e ∙ read-drawn word (b ∷ []) (q, tt) in
     cc
 
 split : (a b : List ℕ) (ls ks : Lines) → ended a ls ≡ ended b ks → (a ≡ b) × (ls ≡ ks)
 split a b ls ks e = (cc, cc)
+
+pub one-tree : (f g : Figures) (t u : Hub) (ls ks : Lines) → draw f t ls ≡ draw g u ks → t ≡ u
+unfolding draw
+one-tree f g t u ls ks e =
+    let frame = split _ _ _ _ e in
+    let overhead = split _ _ _ _ (frame .1) in
+    let interrupt = split _ _ _ _ (overhead .1) in
+    let root = split hub-word hub-word _ _ (interrupt .1) in
+    one-hub t u ls ks (root .1) .0
 
 -- the figures, the tree and what follows are the text's own
 pub record SameDrawing (text : List ℕ) (d k : DrawnBy text) : Type 0 where

@@ -8,7 +8,7 @@ use borrow.Author.Tests.{leb-true, le-leb}
 use lib.Dec.{leb}
 use Rattle.rules.specs.Plan.{most-hubs, most-ports, most-nodes, most-levels}
 use Rattle.text.proofs.Words.{both}
-use Rattle.plan_theory.specs.Tree.{Port, node, hub, Hub, close, port, portsOf, nodesAt, nodesIn, hubsAt, hubsIn, levelsAt, levelsIn, wide, widthsAt, widthsIn, limits}
+use Rattle.plan_theory.specs.Tree.{Port, node, hub, Hub, close, port, portsOf, nodesAt, nodesIn, hubsAt, hubsIn, levelsAt, levelsIn, wide, widthsAt, widthsIn, fits, limits}
 
 pub and-true : (a b : Bool) → a ≡ true → b ≡ true → (a && b) ≡ true
 and-true a b p q = rw (p, q)
@@ -109,36 +109,43 @@ module _ (q l nodes hubs : ℕ) where
             (r .inWidths);
       }
 
--- the limits of a whole tree are the room of its root, and a node
-pub room-limits : (h : Hub) → HubRoom h 0 1 0 1 → 1 ≤ nodesIn h → limits h ≡ true
-unfolding limits
-room-limits h r n =
+-- that a whole tree fits is the room of its root
+pub room-fits : (h : Hub) → HubRoom h 0 1 0 1 → fits h ≡ true
+unfolding fits
+room-fits h r =
     rw (
       le-leb 1 (portsOf h) (omega (arith, r .some)),
       le-leb (portsOf h) most-ports (omega (arith, r .ports)),
       r .inWidths,
       le-leb (hubsIn h) most-hubs (omega (arith, r .inHubs)),
-      le-leb 1 (nodesIn h) n,
       le-leb (nodesIn h) most-nodes (omega (arith, r .inNodes)),
       le-leb (levelsIn h) most-levels (omega (arith, r .inLevels)),
     )
 
+pub fits-room : (h : Hub) → fits h ≡ true → HubRoom h 0 1 0 1
+unfolding fits
+fits-room h e =
+    let l = both (wide h && widthsIn h && leb (hubsIn h) most-hubs && leb (nodesIn h) most-nodes) (leb (levelsIn h) most-levels) e in
+    let n = both (wide h && widthsIn h && leb (hubsIn h) most-hubs) (leb (nodesIn h) most-nodes) (l .0) in
+    let g = both (wide h && widthsIn h) (leb (hubsIn h) most-hubs) (n .0) in
+    let w = both (wide h) (widthsIn h) (g .0) in
+    let p = both (leb 1 (portsOf h)) (leb (portsOf h) most-ports) (w .0) in
+    record {
+      some = omega (arith, leb-true 1 (portsOf h) (p .0));
+      ports = omega (arith, leb-true (portsOf h) most-ports (p .1));
+      inNodes = omega (arith, leb-true (nodesIn h) most-nodes (n .1));
+      inHubs = omega (arith, leb-true (hubsIn h) most-hubs (g .1));
+      inLevels = omega (arith, leb-true (levelsIn h) most-levels (l .1));
+      inWidths = w .1;
+    }
+
+-- and its limits are this and a node
+pub room-limits : (h : Hub) → HubRoom h 0 1 0 1 → 1 ≤ nodesIn h → limits h ≡ true
+unfolding limits
+room-limits h r n = and-true (fits h) (leb 1 (nodesIn h)) (room-fits h r) (le-leb 1 (nodesIn h) n)
+
 pub limits-room : (h : Hub) → limits h ≡ true → HubRoom h 0 1 0 1 × (1 ≤ nodesIn h)
 unfolding limits
 limits-room h e =
-    let l = both (wide h && widthsIn h && leb (hubsIn h) most-hubs && leb 1 (nodesIn h) && leb (nodesIn h) most-nodes) (leb (levelsIn h) most-levels) e in
-    let n = both (wide h && widthsIn h && leb (hubsIn h) most-hubs && leb 1 (nodesIn h)) (leb (nodesIn h) most-nodes) (l .0) in
-    let m = both (wide h && widthsIn h && leb (hubsIn h) most-hubs) (leb 1 (nodesIn h)) (n .0) in
-    let g = both (wide h && widthsIn h) (leb (hubsIn h) most-hubs) (m .0) in
-    let w = both (wide h) (widthsIn h) (g .0) in
-    let p = both (leb 1 (portsOf h)) (leb (portsOf h) most-ports) (w .0) in (
-      record {
-        some = omega (arith, leb-true 1 (portsOf h) (p .0));
-        ports = omega (arith, leb-true (portsOf h) most-ports (p .1));
-        inNodes = omega (arith, leb-true (nodesIn h) most-nodes (n .1));
-        inHubs = omega (arith, leb-true (hubsIn h) most-hubs (g .1));
-        inLevels = omega (arith, leb-true (levelsIn h) most-levels (l .1));
-        inWidths = w .1;
-      },
-      leb-true 1 (nodesIn h) (m .1),
-    )
+    let l = both (fits h) (leb 1 (nodesIn h)) e in
+    (fits-room h (l .0), leb-true 1 (nodesIn h) (l .1))

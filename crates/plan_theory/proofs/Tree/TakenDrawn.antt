@@ -31,7 +31,7 @@ use Rattle.plan_theory.specs.Taken.{DrawnBy}
 use Rattle.plan_theory.proofs.Tree.Room.{room-limits}
 use Rattle.plan.proofs.Reading.Agree.{first, over, hub-agrees}
 use Rattle.plan_theory.proofs.Tree.Trees.{Drawing, kind-line, HubRead, TreeRead, hub-tree}
-use Rattle.plan_theory.proofs.Tree.Figures.{ranges-good}
+use Rattle.plan_theory.proofs.Tree.Figures.{ranges-good, one-number}
 
 module _ (n m at line : ℕ) where
   abbrev IsTaken : reading.Read → Type 0
@@ -43,11 +43,6 @@ module _ (n m at line : ℕ) where
   line-taken nothing c f t = let z : _≡_ {A = ℕ} 0 1 = cc in absurd (omega arith)
   line-taken (unended l) c f t = let z : _≡_ {A = ℕ} 0 1 = cc in absurd (omega arith)
   line-taken (ended l rest) c f t = (l, rest, refl, t)
-
-  one-number : (ns : List ℕ) → length ns ≡ 1 → ns ≡ getD ns 0 0 ∷ []
-  one-number [] e = absurd (omega arith)
-  one-number (a ∷ []) e = refl
-  one-number (a ∷ b ∷ ns) e = absurd (omega arith)
 
   -- what follows a figure, by its value, the lines behind it and their cursor
   abbrev More : Type 0

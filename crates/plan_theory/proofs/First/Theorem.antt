@@ -1,0 +1,142 @@
+-- A refused plan is decided by its line: the first from above to which a row applies, and that line's first row. Assumes nothing.
+use Prim.Native.Nat.{ℕ, zero, suc, _+_, _^_, _≤_, _<_}
+use mathlib.Core.Path.{_≡_, refl, sym, ap, _∙_, subst}
+use mathlib.Core.Bool.{Bool, true, false}
+use mathlib.Core.List.{List}
+use native.Mathlib.Omega.{arith}
+use native.Mathlib.Numerals.{add-one}
+use borrow.Author.Tests.{leb-true, leb-false}
+use lib.Dec.{leb}
+use Rattle.rules.proofs.Laws.Passes.{Which, which, yes′, no′, true-false}
+use Rattle.text.specs.Line.{Lines, nothing, unended, ended, lines, nextNumber}
+use Rattle.plan.specs.Reading.{frameLine, reading}
+use Rattle.plan_theory.specs.Tree.{draw, fits, goodFigures}
+use Rattle.plan_theory.specs.Behind.{linesIn}
+use Rattle.plan_theory.specs.Taken.{RefusedAt}
+use Rattle.plan_theory.specs.First.{firstLines, Formed, RowApplies, row-1, row-2, row-3, row-3-node, DecidedBy}
+use Rattle.plan_theory.proofs.First.Places.{Follows, Says, says-1, says-2, says-3, says-3-node, Clean}
+use Rattle.plan_theory.proofs.First.Deciding.{later, Decides}
+use Rattle.plan_theory.proofs.First.Header.{figures, WholePlans, frame-decides}
+
+-- lines are counted one by one as long as 64 bits hold the count
+later-sum : (k n : ℕ) → k + n < 2 ^ 64 → later k n ≡ k + n
+unfolding later
+later-sum zero n h = omega arith
+later-sum (suc k) n h =
+    let e : nextNumber n ≡ n + 1 = omega arith in
+    later-sum k (nextNumber n) (omega arith) ∙ omega arith
+
+-- the plans of the first line are the drawings
+formed : (ls : Lines) (n : ℕ) → Follows WholePlans ls n → Formed ls n
+unfolding draw
+formed ls n d =
+    let w = d .what in
+    record {
+      fig = figures (w .0) (w .2 .0) (w .2 .2 .0);
+      tree = w .2 .2 .2;
+      rest = d .rest;
+      small = (w .1, (w .2 .1, (w .2 .2 .1, tt)));
+      drawn = d .same;
+    }
+
+follows : (ls : Lines) (n : ℕ) → Formed ls n → Follows WholePlans ls n
+unfolding draw
+follows ls n d =
+    let fig = d .fig in
+    record {
+      what = (fig .frame, d .small .0, (fig .overhead, d .small .1 .0, (fig .interrupt, d .small .1 .1 .0, d .tree)));
+      rest = d .rest;
+      same = d .drawn;
+    }
+
+not-true : (b : Bool) → (b ≡ true → ⊥) → b ≡ false
+not-true true h = absurd (h refl)
+not-true false h = refl
+
+-- the row that says no applies
+applies : (ls : Lines) (n k : ℕ) → Says WholePlans ls n k → RowApplies ls n k
+unfolding formed follows
+applies ls n k (says-1 h) = row-1 (λ d. h (follows ls n d))
+applies ls n k (says-2 d h) = row-2 (formed ls n d) (λ x. not-true (goodFigures (x .fig)) (h (follows ls n x)))
+applies ls n k (says-3 d g h) = row-3 (formed ls n d) (λ x. not-true (fits (x .tree)) (h (follows ls n x)))
+applies ls n k (says-3-node d g s z) = row-3-node (formed ls n d) (omega arith) (omega arith)
+
+-- behind good figures row 3 is the first
+from-3 : (ls : Lines) (n : ℕ) (d : Follows WholePlans ls n) → WholePlans .good (d .what) → {j : ℕ} → RowApplies ls n j → 3 ≤ j
+unfolding formed
+from-3 ls n d g (row-1 f) = absurd (f (formed ls n d))
+from-3 ls n d g (row-2 x f) = absurd (true-false g (f (formed ls n d)))
+from-3 ls n d g (row-3 x f) = omega arith
+from-3 ls n d g (row-3-node x s z) = omega arith
+
+-- and no earlier row applies to its line
+first-row : (ls : Lines) (n m k : ℕ) → Says WholePlans ls n m → RowApplies ls n k → m ≤ k
+unfolding formed
+first-row ls n m k (says-1 h) r = from-1 r
+  where
+    from-1 : {j : ℕ} → RowApplies ls n j → 1 ≤ j
+    from-1 (row-1 f) = omega arith
+    from-1 (row-2 x f) = omega arith
+    from-1 (row-3 x f) = omega arith
+    from-1 (row-3-node x s z) = omega arith
+first-row ls n m k (says-2 d h) r = from-2 r
+  where
+    from-2 : {j : ℕ} → RowApplies ls n j → 2 ≤ j
+    from-2 (row-1 f) = absurd (f (formed ls n d))
+    from-2 (row-2 x f) = omega arith
+    from-2 (row-3 x f) = omega arith
+    from-2 (row-3-node x s z) = omega arith
+first-row ls n m k (says-3 d g h) r = from-3 ls n d g r
+first-row ls n m k (says-3-node d g s z) r = from-3 ls n d g r
+
+-- the first n lines of the first m lines
+shorter : (n m : ℕ) → n ≤ m → (a : Lines) → firstLines n (firstLines m a) ≡ firstLines n a
+unfolding firstLines
+shorter zero m h a = refl
+shorter (suc n) zero h a = absurd (omega arith)
+shorter (suc n) (suc m) h nothing = refl
+shorter (suc n) (suc m) h (unended l) = refl
+shorter (suc n) (suc m) h (ended l rest) = ap (ended l) (shorter n m (omega arith) rest)
+
+fewer : (ls : Lines) (n m : ℕ) → n ≤ m → Formed ls m → Formed ls n
+fewer ls n m h d =
+    record {
+      fig = d .fig;
+      tree = d .tree;
+      rest = d .rest;
+      small = d .small;
+      drawn = sym (shorter n m h ls) ∙ ap (firstLines n) (d .drawn) ∙ shorter n m h (draw (d .fig) (d .tree) (d .rest));
+    }
+
+-- where a plan that no row refuses goes on to a line, and none is whole before it, no row applies above that line
+none-applies : (ls : Lines) (m : ℕ) → Clean WholePlans ls m → ((k : ℕ) (d : Follows WholePlans ls k) → WholePlans .size (d .what) ≡ k → m < k)
+    → (n k : ℕ) → n ≤ m → RowApplies ls n k → ⊥
+unfolding formed follows fewer
+none-applies ls m c whole n k h (row-1 f) = f (fewer ls n m h (formed ls m (c .it)))
+none-applies ls m c whole n k h (row-2 x f) = true-false (c .good) (f (fewer ls n m h (formed ls m (c .it))))
+none-applies ls m c whole n k h (row-3 x f) = true-false (c .fits) (f (fewer ls n m h (formed ls m (c .it))))
+none-applies ls m c whole n k h (row-3-node d s z) =
+    let e : suc (suc (suc (suc (linesIn (d .tree))))) ≡ n = omega arith in
+    let late = whole n (follows ls n d) e in
+    omega arith
+
+first-line : (ls : Lines) (m : ℕ) → Clean WholePlans ls m → ((k : ℕ) (d : Follows WholePlans ls k) → WholePlans .size (d .what) ≡ k → m < k)
+    → (n k : ℕ) → RowApplies ls n k → Which (leb n m) → m < n
+first-line ls m c whole n k r (yes′ h) = absurd (none-applies ls m c whole n k (leb-true n m h) r)
+first-line ls m c whole n k r (no′ h) = leb-false n m h
+
+pub refused-decided : (text : List ℕ) (line number : ℕ) → RefusedAt text line number → DecidedBy text line number
+unfolding reading Decides
+refused-decided text line number e =
+    let D = frame-decides (lines text) (record { at = 0; number = 1 }) line number e in
+    let one = add-one (D .above) in
+    let row = subst (λ (n : ℕ). Says WholePlans (lines text) n number) (sym one) (D .row) in
+    record {
+      above = D .above;
+      its-number = λ h. D .its-number ∙ later-sum (D .above) 1 h;
+      row = applies (lines text) (D .above + 1) number row;
+      first-line = λ n k r. omega (arith, first-line (lines text) (D .above) (D .clean) (D .whole) n k r (which (leb n (D .above))));
+      first-row = λ k r. omega (arith, first-row (lines text) (D .above + 1) number k row r);
+      none-above = λ short s. ap (λ (x : Lines). frameLine x (record { at = 0; number = 1 }) .answer) s ∙ D .none-above;
+      none-below = λ other s. D .none-below (lines other) (rw (← add-one (D .above)) s);
+    }
