@@ -1,12 +1,12 @@
 #!/usr/bin/env python3
-"""Keeps docs/MAP.md and docs/pictures/map.svg: the crates in layers, and the theorems that document 01's sentences rest on.
+"""Keeps docs/MAP.md, docs/DEMANDS.md and docs/pictures/map.svg: the crates in layers, the demands, and the theorems that they rest on.
 
-    python3 tools/map.py            writes both anew
+    python3 tools/map.py            writes all three anew
     python3 tools/map.py --check    fails if they are stale, or if a link of README.md, docs/ or docs/landings/ leads nowhere
 
-The words of the map stand in tools/map.template.md. There {{FILE NAME}} becomes a link to where NAME is declared in FILE, {{FILE}} one to the file,
-{{stands FILE..}} links to the files of proofs/ that the `use` lines of FILE.. name, {{folders CRATE}} the folders of a crate's
-proofs, and {{crates}} the table of crates.
+The words of the pages stand in tools/map.template.md and tools/demands.template.md. There {{FILE NAME}} becomes a link to where NAME is declared
+in FILE, {{FILE}} one to the file, {{stands FILE..}} links to the files of proofs/ that the `use` lines of FILE.. name, {{folders CRATE}} the
+folders of a crate's proofs, {{crates}} the table of crates, and {{specs}} that of the lines of their specs/.
 """
 import html
 import pathlib
@@ -14,7 +14,10 @@ import re
 import sys
 
 ROOT = pathlib.Path(__file__).resolve().parent.parent
-MAP, PICTURE = ROOT / 'docs/MAP.md', ROOT / 'docs/pictures/map.svg'
+PICTURE = ROOT / 'docs/pictures/map.svg'
+PAGES = {ROOT / 'docs/MAP.md': 'map.template.md', ROOT / 'docs/DEMANDS.md': 'demands.template.md'}
+# Files of specs/ that a reader need not believe: worked cases, computed by the definitions of the others.
+WORKED = re.compile(r'rules/specs/(\w*Slips|\w*Runs|Sample)\.antt|trials/specs/\w+\.antt|beside/specs/Bell\.antt')
 
 
 def crate_names():
@@ -120,6 +123,23 @@ def table():
     return '\n'.join(rows)
 
 
+def counted(file):
+    """The lines of a file of specs/ but for blank ones, comments, and those that only name other files."""
+    return len([line for line in file.read_text().splitlines() if not re.match(r'\s*(--|use |pub mod |$)', line)])
+
+
+def specs():
+    rows, sums = ['| crate | lines of definitions | of worked cases |', '|---|---|---|'], [0, 0]
+    for crate in CRATES:
+        lines = [0, 0]
+        for file in (ROOT / 'crates' / crate / 'specs').glob('*.antt'):
+            lines[bool(WORKED.search(str(file)))] += counted(file)
+        if any(lines):
+            rows.append(f'| `{crate}` | {lines[0] or "-"} | {lines[1] or "-"} |')
+        sums = [sums[0] + lines[0], sums[1] + lines[1]]
+    return '\n'.join(rows + [f'| all | {sums[0]} | {sums[1]} |'])
+
+
 def folders(crate):
     """The folders of a crate's proofs that have a first file beside them, with its first line, in the order of proofs/Lib.antt."""
     proofs = ROOT / 'crates' / crate / 'proofs'
@@ -136,6 +156,8 @@ def filled(template):
         words = match[1].split(' ')
         if words == ['crates']:
             return table()
+        if words == ['specs']:
+            return specs()
         if words[0] == 'folders':
             return folders(words[1])
         if words[0] == 'stands':
@@ -215,8 +237,8 @@ def broken_links():
 
 
 def main():
-    template = (ROOT / 'tools/map.template.md').read_text()
-    made = {MAP: filled(template), PICTURE: picture()}
+    made = {page: filled((ROOT / 'tools' / template).read_text()) for page, template in PAGES.items()}
+    made[PICTURE] = picture()
     if '--check' not in sys.argv:
         for file, text in made.items():
             file.parent.mkdir(exist_ok=True)
@@ -229,7 +251,7 @@ def main():
     for target in broken:
         print(f'map: this link leads nowhere: {target}')
     if not stale and not broken:
-        print(f'map: docs/MAP.md is that of {len(CRATES)} crates, and every link of the papers leads somewhere')
+        print(f'map: docs/MAP.md and docs/DEMANDS.md are those of {len(CRATES)} crates, and every link of the papers leads somewhere')
     return 1 if stale or broken else 0
 
 

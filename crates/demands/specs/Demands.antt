@@ -31,9 +31,10 @@ use Rattle.rules.specs.Travel.{Travels}
 use Rattle.rules.specs.Demand.{Holds3}
 use Rattle.rules.specs.AnyMoment.{AnyMoment}
 use Rattle.rules.specs.Promises.{NoTimeLost, Admits, Acceptable}
+use Rattle.text.specs.Line.{lines}
 use Rattle.plan.specs.Reading.{reading, leaves}
 use Rattle.plan_theory.specs.Taken.{DrawnBy, TakenAs, RefusedAt, TakenFor}
-use Rattle.plan_theory.specs.First.{DecidedBy}
+use Rattle.plan_theory.specs.First.{RowApplies, DecidedBy}
 use Rattle.cells.specs.declared.Step.{Step}
 use Rattle.cells.specs.Layout.{timeAt, clock-cell}
 use Rattle.cells.specs.Decode.{hubOf, coreOf}
@@ -46,8 +47,10 @@ pub record PlanDemands (text : List ℕ) : Type 0 where
   pub taken-iff : ((nodes : ℕ) × (hubs : ℕ) × (at : ℕ) × (line : ℕ) × TakenAs text nodes hubs at line) ↔ DrawnBy text
   -- and then for just the hubs, ports, nodes and figures that its lines draw
   pub taken-for : (d : DrawnBy text) → TakenFor text (d .fig) (d .tree) (d .rest)
-  -- every other text is refused
+  -- every other text is refused,
   pub refused-iff : ((line : ℕ) × (number : ℕ) × RefusedAt text line number) ↔ (DrawnBy text → ⊥)
+  -- and to no line of one that is taken does a row apply
+  pub taken-no-row : DrawnBy text → (n k : ℕ) → RowApplies (lines text) n k → ⊥
   -- the first line from above to which a row applies, then the first row, decides
   pub first-line : (line number : ℕ) → RefusedAt text line number → DecidedBy text line number
   -- Demand 1: a refused plan leaves the lent tables as they were
