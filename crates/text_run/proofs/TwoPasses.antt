@@ -1,17 +1,18 @@
 -- A pass that measures, and one that writes behind it where the log fits: together all of the log, or nothing.
-use Prim.Native.Nat.{ℕ, _≤_}
+use Prim.Native.Nat.{ℕ, _+_, _≤_}
 use mathlib.Core.Path.{_≡_, refl, sym, ap, _∙_}
 use mathlib.Core.Bool.{true, false}
 use mathlib.Core.List.{List}
+use native.Mathlib.Nat.{zero-add}
 use native.Mathlib.Omega.{arith}
 use lib.ListN.{length}
 use borrow.Author.Tests.{le-leb, leb-true, leb-false}
 use Rattle.rules.proofs.Laws.Passes.{Which, which, yes′, no′}
 use Rattle.rules.proofs.Laws.Clash.{clash}
-use Rattle.writer.specs.Write.{fits, putAnswer, putBuffer}
+use Rattle.writer.specs.Write.{fits, overwrite, putAnswer, putBuffer, putNumber, putRow}
 use Rattle.writer.specs.declared.Put.{Put}
 use Rattle.writer.specs.declared.Put.the-variants.{Behind, Short}
-use Rattle.writer.proofs.Writes.{put-fits, put-short}
+use Rattle.writer.proofs.Writes.{put-fits, put-short, put-told}
 use Rattle.plan.specs.Reading.{reading, leaves}
 use Rattle.log_lines.specs.Handed.{handed}
 use Rattle.log_spec.specs.Log.{logOf, logBytes}
@@ -57,14 +58,21 @@ large-room text b h = (sym (le-leb _ (length b) (omega (arith, log-bound text)))
 -- what `run` promises of its answer, its buffer and its tables
 abbrev Left : List ℕ → List ℕ → List ℕ → List ℕ → Put → List ℕ → List ℕ → List ℕ → Type 0
 Left text plan s b r b′ plan′ s′ =
-    (r ≡ putAnswer b 0 (logBytes text)) × ((b′ ≡ putBuffer b 0 (logBytes text)) × ((plan′ ≡ planLeft text plan b) × (s′ ≡ cellsLeft text s b)))
+    (r ≡ putAnswer b 0 (logBytes text)) × ((b′ ≡ putBuffer b 0 (logBytes text)) × ((putNumber r ≡ putRow b 0 (logBytes text)) × ((plan′ ≡ planLeft text plan b) × (s′ ≡ cellsLeft text s b))))
+
+-- the answer and the buffer, with document 01's number of the answer
+all-left : (text plan s b : List ℕ) {r : Put} {b′ plan′ s′ : List ℕ} → r ≡ putAnswer b 0 (logBytes text) → b′ ≡ putBuffer b 0 (logBytes text)
+    → plan′ ≡ planLeft text plan b → s′ ≡ cellsLeft text s b → Left text plan s b r b′ plan′ s′
+all-left text plan s b {r} {b′} p q planned kept =
+    let t = put-told b 0 (logBytes text) r b′ p q in
+    (t .0, (t .1, (t .2, (planned, kept))))
 
 module _ (text plan s b : List ℕ) {b₁ : List ℕ} (same : b₁ ≡ b) where
   pub not-written : fits b 0 (logBytes text) ≡ false → Left text plan s b Short b₁ plan s
   unfolding planLeft cellsLeft
   not-written short =
       let p = put-short b 0 (logBytes text) (leb-false _ (length b) short) in
-      (sym (p .0), (same ∙ sym (p .1), rw short (refl, refl)))
+      all-left text plan s b (sym (p .0)) (same ∙ sym (p .1)) (rw short) (rw short)
 
   pub written-whole : fits b 0 (logBytes text) ≡ true → {r : Put} {plan′ s′ b′ : List ℕ}
       → (r ≡ passBy true text s b₁ .put) × ((s′ ≡ passBy true text s b₁ .cells) × ((b′ ≡ passBy true text s b₁ .buffer) × (plan′ ≡ leaves (reading (handed text)) plan)))
@@ -72,10 +80,30 @@ module _ (text plan s b : List ℕ) {b₁ : List ℕ} (same : b₁ ≡ b) where
   unfolding planLeft cellsLeft logBytes
   written-whole room {r} {plan′} {s′} {b′} w =
       let p = pass-writes true text s b in
-      let v = rw same at w in (
-        v .0 ∙ ap (λ (w : Written). w .put) p ∙ at-once (logOf text) b true,
-        (
-          v .1 .1 .0 ∙ ap (λ (w : Written). w .buffer) p ∙ all-written (logOf text) b (leb-true _ (length b) room),
-          (v .1 .1 .1 ∙ rw room, v .1 .0 ∙ rw room),
-        ),
-      )
+      let v = rw same at w in
+      all-left text plan s b
+      (v .0 ∙ ap (λ (w : Written). w .put) p ∙ at-once (logOf text) b true)
+      (v .1 .1 .0 ∙ ap (λ (w : Written). w .buffer) p ∙ all-written (logOf text) b (leb-true _ (length b) room))
+      (v .1 .1 .1 ∙ rw room)
+      (v .1 .0 ∙ rw room)
+
+-- a pass that writes into a buffer that holds every log: the place behind the log is its length, and all of it stands there
+module _ (text s b : List ℕ) (large : 1179648 ≤ length b) {r : Put} (answer : r ≡ passBy true text s b .put) where
+  wrote : r ≡ Behind (length (logBytes text))
+  unfolding logBytes
+  wrote =
+      answer
+      ∙ ap (λ (w : Written). w .put) (pass-writes true text s b)
+      ∙ at-once (logOf text) b true
+      ∙ put-fits b 0 (logBytes text) (omega (arith, log-bound text)) .0
+      ∙ ap Behind (zero-add (length (logBytes text)))
+
+  pub never-short : r ≡ Short → ⊥
+  never-short e = clash (cc wrote)
+
+  pub all-of-it : (z : ℕ) → r ≡ Behind z → {b′ : List ℕ} → b′ ≡ passBy true text s b .buffer → (z ≡ length (logBytes text)) × (b′ ≡ overwrite b 0 (logBytes text))
+  unfolding logBytes
+  all-of-it z e {b′} after =
+      let p = pass-writes true text s b in
+      let room : 0 + length (logBytes text) ≤ length b = omega (arith, log-bound text) in
+      (cc wrote, after ∙ ap (λ (w : Written). w .buffer) p ∙ all-written (logOf text) b room ∙ put-fits b 0 (logBytes text) room .1)

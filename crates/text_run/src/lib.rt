@@ -1,10 +1,11 @@
 // The run over one text: the plan is read, then each event behind all steps strictly before it, and the log is written into a lent buffer,
-// all of it or nothing. `run` has no `requires`: what it writes is one definition of the whole log of a text, `log_spec`'s specs/Log.antt.
+// all of it or nothing. No public function has a `requires`: what is written is one definition of a log, `log_spec`'s specs/Log.antt.
 use cells::Cascade;
 use plan::Answer;
 use plan_tree::Plan;
 use writer::Put;
 ghost use mathlib.Core.Path.{_≡_};
+ghost use mathlib.Core.Bool.{true};
 ghost use Prim.Native.Nat.{suc};
 ghost use lib.ListN.{length};
 ghost use Rattle.plan.specs.Reading.{reading, leaves};
@@ -13,7 +14,10 @@ ghost use Rattle.log_spec.specs.Cells.{eventsBy, behindPlan, passBy, planLeft, 
 ghost use Rattle.line_run.specs.LineRun.{Ran, lineBy};
 ghost use Rattle.text_run.specs.LinePass.{wentBy, Passed};
 ghost use Rattle.log_spec.specs.Log.{logBytes};
-ghost use Rattle.writer.specs.Write.{fits, putAnswer, putBuffer};
+ghost use Rattle.writer.specs.Write.{fits, overwrite, putAnswer, putBuffer, putNumber, putRow};
+
+// How many bytes hold the log of every text: 18 times 65,536, `log-bound` in `log_spec`.
+pub const LONGEST_LOG: usize = 1179648;
 
 // How a run goes on behind a line: what became of what it wrote, the place for the next line's, and whether a line may follow.
 pub struct Went {
@@ -125,13 +129,13 @@ fn pass(text: &[u8], plan: &mut Plan, s: &mut Cascade, write: bool, buffer: &mut
     }
 }
 
-// Whether the whole log of a text fits into a lent buffer. 18 times 65,536 bytes hold every log (`log-bound`
-// in `log_spec`); of a shorter buffer a pass on tables of its own finds it out, which only measures.
+// Whether the whole log of a text fits into a lent buffer. Every log fits into one of LONGEST_LOG bytes;
+// of a shorter buffer a pass on tables of its own finds it out, which only measures.
 fn log_fits(text: &[u8], buffer: &mut [u8]) -> bool
     ensures { λ r. ⌜ r ≡ fits (now (buffer .entry)) 0 (logBytes (now (text .entry))) ⌝ }
     ensures { λ r. ⌜ now (buffer .exit) ≡ now (buffer .entry) ⌝ }
 {
-    if 1179648 <= buffer.len() {
+    if LONGEST_LOG <= buffer.len() {
         return true;
     }
     let mut plan = [0u32; plan_tree::CELLS];
@@ -147,6 +151,7 @@ fn log_fits(text: &[u8], buffer: &mut [u8]) -> bool
 pub fn run(text: &[u8], plan: &mut Plan, s: &mut Cascade, buffer: &mut [u8]) -> Put
     ensures { λ r. ⌜ r ≡ putAnswer (now (buffer .entry)) 0 (logBytes (now (text .entry))) ⌝ }
     ensures { λ r. ⌜ now (buffer .exit) ≡ putBuffer (now (buffer .entry)) 0 (logBytes (now (text .entry))) ⌝ }
+    ensures { λ r. ⌜ putNumber r ≡ putRow (now (buffer .entry)) 0 (logBytes (now (text .entry))) ⌝ }
     ensures { λ r. ⌜ now (plan .exit) ≡ planLeft (now (text .entry)) (now (plan .entry)) (now (buffer .entry)) ⌝ }
     ensures { λ r. ⌜ now (s .exit) ≡ cellsLeft (now (text .entry)) (now (s .entry)) (now (buffer .entry)) ⌝ }
 {
@@ -154,4 +159,23 @@ pub fn run(text: &[u8], plan: &mut Plan, s: &mut Cascade, buffer: &mut [u8]) -> 
         return Put::Short;
     }
     pass(text, plan, s, true, buffer)
+}
+
+// The whole log of a text at the front of a buffer that holds every log, and how many bytes it has. Nothing has to be measured, so one pass
+// writes it. A taken plan's tables stand in `plan`, and the cascade's in `s`; a refused plan leaves both as they were.
+pub fn whole_log(
+    text: &[u8],
+    plan: &mut Plan,
+    s: &mut Cascade,
+    out: &mut [u8; LONGEST_LOG],
+) -> usize
+    ensures { λ r. ⌜ r ≡ length (logBytes (now (text .entry))) ⌝ }
+    ensures { λ r. ⌜ now (out .exit) ≡ overwrite (now (out .entry)) 0 (logBytes (now (text .entry))) ⌝ }
+    ensures { λ r. ⌜ now (plan .exit) ≡ leaves (reading (handed (now (text .entry)))) (now (plan .entry)) ⌝ }
+    ensures { λ r. ⌜ now (s .exit) ≡ passBy true (now (text .entry)) (now (s .entry)) (now (out .entry)) .cells ⌝ }
+{
+    match pass(text, plan, s, true, out) {
+        Put::Behind(end) => end,
+        Put::Short => 0,
+    }
 }

@@ -29,7 +29,7 @@ returns c =
     let z = c .before .z .given in
     let x = sym (z .1) ∙ e .0 in
     let w = behind-number (a .log .now) (logBytes (a .text .now)) (z .0 .0) x in
-    (omega (arith, w), (e .1 .0, (behind-end (a .end .now) (z .0 .0) x, e .1 .1)))
+    (omega (arith, w), (e .1 .0, (behind-end (a .end .now) (z .0 .0) x, e .1 .1 .1)))
 
 same-length-2 : tie.Need-same-length-2
 same-length-2 c = search needs
@@ -40,7 +40,7 @@ returns-2 c =
     let e = c .before .before .before .before .run .ensures in
     let x = sym (c .enum-told .given .1) ∙ e .0 in
     let w = short-number (a .log .now) (logBytes (a .text .now)) x in
-    (omega (arith, w), (e .1 .0, (short-end (a .end .now) x, e .1 .1)))
+    (omega (arith, w), (e .1 .0, (short-end (a .end .now) x, e .1 .1 .1)))
 
 pub lembuya-run-spec : {M : Type 1} → statement M
 lembuya-run-spec =

@@ -1,4 +1,4 @@
--- `log_suite::text_end` meets its contract, which is only what its caller needs: the place stays within the input. Assumes nothing.
+-- `log_suite::text_end` meets its contract, which is only what its caller needs: the place stays within the texts. Assumes nothing.
 use Prim.Native.Nat.{_≤_, _-_}
 use native.Mathlib.Omega.{arith}
 use lib.ListN.{length}
@@ -6,10 +6,10 @@ use Rattle.log_suite.proofs.text_end.Statement.{statement}
 use Rattle.log_suite.proofs.text_end.Tie as tie
 
 abbrev Inv-loop : tie.InvT-loop
-Inv-loop input at i₀ i = (at ≤ i) × (i ≤ length input)
+Inv-loop texts at i₀ i = (at ≤ i) × (i ≤ length texts)
 
 abbrev μ-loop : tie.MeasureT-loop
-μ-loop input at i₀ i = length input - i
+μ-loop texts at i₀ i = length texts - i
 
 loop-holds : tie.Need-loop-holds Inv-loop μ-loop
 loop-holds c = omega arith

@@ -1,42 +1,30 @@
--- `log_suite::write_log` is safe and ends. What it writes lies within the buffer. Assumes nothing.
+-- `log_suite::write_log` is safe and ends. What it writes is the log, at the front of the buffer. Assumes nothing.
 use Rattle.log_spec.specs.Log.{logBytes}
-use Rattle.log_lines.proofs.Within.{behind-within, behind-counts}
+use Rattle.text_run.proofs.Front.{front-counts}
 use borrow.Author.Needs.{needs}
 use Rattle.log_suite.proofs.write_log.Statement.{statement}
 use Rattle.log_suite.proofs.write_log.Tie as tie
 
-run-requires : tie.Need-run-requires
-run-requires c κs = search needs
-
-enum-known-end : tie.Need-enum-known-end
-enum-known-end c = search needs
-
-slice-reshare-prefix-write-all : tie.Need-slice-reshare-prefix-write-all
-slice-reshare-prefix-write-all c =
-    let a = c .before .before .before .before .before .before .before .before .before .before .before .args in
-    let r = c .before .before .before .before .before .run .ensures in
-    behind-within (a .out .now) 0 (logBytes (a .text .now)) (r .0) (c .before .end .given .1) (r .1 .0)
+whole-log-requires : tie.Need-whole-log-requires
+whole-log-requires c κs = search needs
 
 slice-aggregate-write-all : tie.Need-slice-aggregate-write-all
 slice-aggregate-write-all c =
-    let a = c .before .before .before .before .before .before .before .before .before .before .before .before .args in
-    let r = c .before .before .before .before .before .before .run .ensures in
-    behind-counts (a .out .now) 0 (logBytes (a .text .now)) (r .0) (c .before .before .end .given .1) (r .1 .0)
+    let a = c .before .before .before .before .before .before .before .before .args in
+    let w = c .before .before .before .whole-log .ensures in
+    front-counts (a .out .now) (logBytes (a .text .now)) (w .0) (w .1 .0)
 
 write-all-requires : tie.Need-write-all-requires
 write-all-requires c κs = search needs
 
-enum-told : tie.Need-enum-told
-enum-told c = search needs
+slice-aggregate-write-all-2 : tie.Need-slice-aggregate-write-all-2
+slice-aggregate-write-all-2 c = search needs
 
-same-length : tie.Need-same-length
-same-length c = search needs
+write-all-requires-2 : tie.Need-write-all-requires-2
+write-all-requires-2 c κs = search needs
 
 returns : tie.Need-returns
 returns c = search needs
-
-same-length-2 : tie.Need-same-length-2
-same-length-2 c = search needs
 
 returns-2 : tie.Need-returns-2
 returns-2 c = search needs
@@ -45,13 +33,10 @@ pub write-log-spec : {M : Type 1} → statement M
 write-log-spec =
     tie.close
     (tie.spec
-    run-requires
-    enum-known-end
-    slice-reshare-prefix-write-all
+    whole-log-requires
     slice-aggregate-write-all
     write-all-requires
-    enum-told
-    same-length
+    slice-aggregate-write-all-2
+    write-all-requires-2
     returns
-    same-length-2
     returns-2)

@@ -1,16 +1,16 @@
--- `log_suite::write_logs` is safe and ends: each turn goes past at least one byte of the input, or its end. Assumes nothing.
+-- `log_suite::write_logs` is safe and ends: each turn goes past at least one byte of the texts, or their end. Assumes nothing.
 use Prim.Native.Nat.{_+_, _-_}
-use mathlib.Core.Path.{_≡_}
 use borrow.Author.Needs.{needs}
 use lib.ListN.{length}
 use Rattle.log_suite.proofs.write_logs.Statement.{statement}
 use Rattle.log_suite.proofs.write_logs.Tie as tie
 
+-- nothing has to hold from turn to turn
 abbrev Inv-loop : tie.InvT-loop
-Inv-loop input plan₀ s₀ out₀ at₀ t7 plan s out at = (length out ≡ length out₀) × (length t7 ≡ 3)
+Inv-loop texts plan₀ s₀ out₀ at₀ plan s out at = Unit {0}
 
 abbrev μ-loop : tie.MeasureT-loop
-μ-loop input plan₀ s₀ out₀ at₀ t7 plan s out at = length input + 1 - at
+μ-loop texts plan₀ s₀ out₀ at₀ plan s out at = length texts + 1 - at
 
 loop-holds : tie.Need-loop-holds Inv-loop μ-loop
 loop-holds c = search needs
@@ -30,11 +30,8 @@ part-write-log-end c = search needs
 write-log-requires : tie.Need-write-log-requires Inv-loop μ-loop
 write-log-requires c κs = search needs
 
-slice-aggregate-write-all : tie.Need-slice-aggregate-write-all Inv-loop μ-loop
-slice-aggregate-write-all c = search needs
-
-write-all-requires : tie.Need-write-all-requires Inv-loop μ-loop
-write-all-requires c κs = search needs
+returns : tie.Need-returns Inv-loop μ-loop
+returns c = search needs
 
 add-at : tie.Need-add-at Inv-loop μ-loop
 add-at c = search needs
@@ -45,11 +42,8 @@ loop-less c = search needs
 loop-again : tie.Need-loop-again Inv-loop μ-loop
 loop-again c = search needs
 
-same-length : tie.Need-same-length Inv-loop μ-loop
-same-length c = search needs
-
-returns : tie.Need-returns Inv-loop μ-loop
-returns c = search needs
+returns-2 : tie.Need-returns-2 Inv-loop μ-loop
+returns-2 c = search needs
 
 pub write-logs-spec : {M : Type 1} → statement M
 write-logs-spec =
@@ -63,10 +57,8 @@ write-logs-spec =
     part-write-log-start
     part-write-log-end
     write-log-requires
-    slice-aggregate-write-all
-    write-all-requires
+    returns
     add-at
     loop-less
     loop-again
-    same-length
-    returns)
+    returns-2)

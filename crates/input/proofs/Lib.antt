@@ -1,0 +1,2 @@
+-- For the programs: how many bytes were read, by the answer.
+pub mod Counted
