@@ -91,13 +91,13 @@ def link(file, words, line=None):
 
 
 def declared(file, name):
-    """The line of a file that declares a name."""
-    before = r'(?:abbrev +|unfoldable +)*(?:pub +)?(?:abbrev +)?(?:extern "C" +)?(?:record +|data +|fn +)?'
+    """The line of a file that declares a name; there must be just one, so that no link leads to another thing of that name."""
+    before = r'(?:abbrev +|unfoldable +)*(?:pub +|record +)(?:abbrev +)?(?:extern "C" +)?(?:record +|data +|fn +)?'
     pattern = re.compile(r'^ *' + before + re.escape(name) + r'(?=[ (]|:)')
     lines = (ROOT / file).read_text().splitlines()
-    found = [number for number, line in enumerate(lines, 1) if pattern.match(line) and ('pub ' in line or 'record ' in line)]
-    if not found:
-        sys.exit(f'map: {file} declares no {name}')
+    found = [number for number, line in enumerate(lines, 1) if pattern.match(line)]
+    if len(found) != 1:
+        sys.exit(f'map: {file} declares {name} {len(found)} times')
     return found[0]
 
 

@@ -1,4 +1,4 @@
--- `cascade::write_log` is safe and ends. What it writes is the log, at the front of the buffer. Assumes nothing.
+-- `cascade::write_log` is safe and ends: the log lies at the front of the buffer, and so within it. Assumes nothing.
 use Rattle.log_spec.specs.Log.{logBytes}
 use Rattle.text_run.proofs.Front.{front-counts}
 use borrow.Author.Needs.{needs}
