@@ -8,8 +8,8 @@ use lib.Dec.{leb, eqb}
 use Rattle.rules.specs.Choice.{if_then_else_, put}
 use Rattle.rules.specs.Plan.{Plan, levels}
 use Rattle.rules.specs.Call.{normal, high, Call, ask, off, reserve, until, step, time, Answer, taken, refused, grant, rest, quiet}
-use Rattle.rules.specs.Core.{Core, advance, due, before, nothing}
-use Rattle.rules.specs.Rows.{loads}
+use Rattle.rules.specs.Core.{Core, none, advance, due, before, nothing}
+use Rattle.rules.specs.Rows.{loads, withRequest}
 use Rattle.rules.specs.Machine.{Machine, Hub, Outcome, handled, perform}
 use Rattle.rules.specs.Flat.{flat}
 use Rattle.rules.specs.Control.{Control, atFirst, chooseBy, restedBy, control}
@@ -40,10 +40,10 @@ pub record Rejected (x : WrongHub) : Type 0 where
   pub flat : answers (x .slip .plan) (flat (x .slip .plan)) (x .slip .calls) ≡ map unmoved (x .slip .right-answers)
   pub against : Against (x .part) (x .slip)
 
--- Where the right hub grants at s, a wrong one does x of s; elsewhere o, as the right one does.
+-- Where the right hub grants node k at s, a wrong one does x of s and k; elsewhere o, as the right one does.
 -- It grants just where an instant is due before t and a request counts there.
-abbrev pub whereGranted : (ℕ → Outcome Control) → Outcome Control → Answer → Outcome Control
-whereGranted x o (grant s k c end m) = x s
+abbrev pub whereGranted : (ℕ → ℕ → Outcome Control) → Outcome Control → Answer → Outcome Control
+whereGranted x o (grant s k c end m) = x s k
 whereGranted x o (rest s m) = o
 whereGranted x o quiet = o
 whereGranted x o taken = o
@@ -68,12 +68,18 @@ module _ (p : Plan) where
 
   -- "answers a step with quiet .. though an instant is due before t and a request counts there"
   abbrev pub quiet-though-due : Call → Hub Control → Outcome Control
-  quiet-though-due call h = whereGranted (λ s. record { answer = quiet; hub = h }) (right call h) (right call h .answer)
+  quiet-though-due call h = whereGranted (λ s k. record { answer = quiet; hub = h }) (right call h) (right call h .answer)
 
   -- ".. or rest", as the right hub does where nothing counts
   abbrev pub rest-though-due : Call → Hub Control → Outcome Control
   rest-though-due call h =
-      whereGranted (λ s. handled p (control p) s nothing (advance p s (h .core)) (h .turn)) (right call h) (right call h .answer)
+      whereGranted (λ s k. handled p (control p) s nothing (advance p s (h .core)) (h .turn)) (right call h) (right call h .answer)
+
+  -- ".. or rest", and k's request, which counts there and whose turn it is, is lost: no later step takes it up
+  abbrev pub rest-and-lose : Call → Hub Control → Outcome Control
+  rest-and-lose call h =
+      let o = right call h in
+      whereGranted (λ s k. handled p (control p) s nothing (withRequest k none (advance p s (h .core))) (h .turn)) o (o .answer)
 
   -- "right for its first grant and then repeating that node"
   abbrev pub repeating : Machine
@@ -171,6 +177,17 @@ rest-instead =
       wrong-answers = taken ∷ taken ∷ rest 100000 0 ∷ [];
     }
 
+-- a second step finds no request and so no instant that is due: the frame ends, and the packet is never sent
+abbrev pub never-taken-up : Slip
+never-taken-up =
+    record {
+      plan = plan01;
+      wrong = by rest-and-lose;
+      calls = reserve 0 3 1 4000 ∷ ask high 100000 3 4000 ∷ step 200000 ∷ step 200000 ∷ [];
+      right-answers = taken ∷ taken ∷ grant 100000 3 high 105000 1 ∷ rest 105000 1 ∷ [];
+      wrong-answers = taken ∷ taken ∷ rest 100000 0 ∷ quiet ∷ [];
+    }
+
 -- nodes 2 and 3 ask while node 2's packet runs: it is node 3's turn
 abbrev pub repeated : Slip
 repeated =
@@ -266,6 +283,7 @@ abbrev pub list-c : List WrongHub
 list-c =
     record { slip = quiet-instead; part = turns }
     ∷ record { slip = rest-instead; part = turns }
+    ∷ record { slip = never-taken-up; part = turns }
     ∷ record { slip = repeated; part = turns }
     ∷ record { slip = zero-told; part = moves }
     ∷ record { slip = limit-told; part = moves }
@@ -280,8 +298,8 @@ abbrev pub EachRejected : List WrongHub → Type 0
 EachRejected [] = Unit
 EachRejected (x ∷ more) = Rejected x × EachRejected more
 
--- Demand 3 rejects the first and the third too, by a list of their calls and answers, the latest first.
--- (The second comes to no frame's end: a request counts, and each step rests at the clock once more.)
+-- Demand 3 rejects `quiet-though-due`, `rest-and-lose` and `repeating` too, by a list of their calls and answers, the latest first.
+-- (`rest-though-due` comes to no frame's end: its request still counts, and each step rests at the clock once more.)
 abbrev pub listed : List Call → List Answer → List Entry → List Entry
 listed [] told past = past
 listed (call ∷ calls) [] past = past

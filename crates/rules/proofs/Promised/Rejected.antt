@@ -1,5 +1,5 @@
 -- Each hub of list c is told from the right one by its run, on which demand 2 fails of it. And demand 3 fails of
--- two of them: a request with a reserved packet is high at every place of the frame, and is never granted.
+-- three of them: a request with a reserved packet is high at every place of the frame, and is never granted.
 use Prim.Native.Nat.{ℕ, _+_, _*_, _≤_}
 use mathlib.Core.Path.{_≡_, refl, sym, ap, subst, _∙_}
 use mathlib.Core.List.{List, [], _∷_, _++_, map}
@@ -19,7 +19,7 @@ use Rattle.rules.specs.Words.{clockAt, reserved, asked, requestAt, High,
 use Rattle.rules.specs.Demand.{Unbroken, NextTurns, RunTo, by-quiet, Holds3}
 use Rattle.rules.specs.Sample.{plan01}
 use Rattle.rules.specs.Slips.{Slip, Shown, answersBy, narrow}
-use Rattle.rules.specs.Rejected.{turns, moves, Rejected, quiet-instead, rest-instead, repeated, zero-told, limit-told, twelve-said, seventeen-said, node-1-granted, nothing-kept, all-turned-down, list-c, EachRejected, wrongList, BreaksDemand3, never-served}
+use Rattle.rules.specs.Rejected.{turns, moves, Rejected, quiet-instead, rest-instead, never-taken-up, repeated, zero-told, limit-told, twelve-said, seventeen-said, node-1-granted, nothing-kept, all-turned-down, list-c, EachRejected, wrongList, BreaksDemand3, never-served}
 use Rattle.rules.proofs.Laws.Clash.{clash}
 
 module _ (x : Slip) (right : answers (x .plan) (control (x .plan)) (x .calls) ≡ x .right-answers) (wrong : x .wrong (x .calls) ≡ x .wrong-answers)
@@ -42,6 +42,7 @@ unfolding any sum first deepest advance countsIn counts held due sought inTurn b
 all-rejected =
     by-turns quiet-instead refl refl refl (λ e. clash (cc))
     also by-turns rest-instead refl refl refl (λ e. clash (cc))
+    also by-turns never-taken-up refl refl refl (λ e. clash (cc))
     also by-turns repeated refl refl refl (λ e. clash (cc))
     also by-moves zero-told refl refl refl refl (λ e. clash (cc))
     also by-moves limit-told refl refl refl refl (λ e. clash (cc))
@@ -96,6 +97,17 @@ quiet-breaks holds =
     let since = take 1 (wrongList quiet-instead) in
     let before = drop 1 (wrongList quiet-instead) in
     let each : EachPlace (High plan01 3) since before = stays _ refl (omega arith) refl also stays _ refl (omega arith) refl in
+    let node : Within 4 3 = record { low = omega arith; up = omega arith } in
+    clash (must-grant plan01 3 1 since before node (omega arith) refl each (by-quiet _ _ refl refl) refl holds)
+
+pub resting-breaks : BreaksDemand3 never-taken-up
+unfolding clockAt reserved requestAt highGrants
+resting-breaks holds =
+    let stays = stays-high plan01 3 100000 4000 in
+    let since = take 2 (wrongList never-taken-up) in
+    let before = drop 2 (wrongList never-taken-up) in
+    let each : EachPlace (High plan01 3) since before =
+    stays _ refl (omega arith) refl also stays _ refl (omega arith) refl also stays _ refl (omega arith) refl in
     let node : Within 4 3 = record { low = omega arith; up = omega arith } in
     clash (must-grant plan01 3 1 since before node (omega arith) refl each (by-quiet _ _ refl refl) refl holds)
 
