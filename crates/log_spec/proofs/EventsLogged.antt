@@ -26,6 +26,7 @@ use Rattle.cells.specs.Decode.{planIn}
 use Rattle.cells.specs.Calls.{eventAnswer, rowBy, eventBy, Performed, eventLeft, performBy}
 use Rattle.refinement.specs.Kept.{Ready}
 use Rattle.log_spec.specs.Log.{eventLine, stepsBefore, eventLog, eventsLog}
+use Rattle.log_spec.specs.Left.{eventsHub}
 use Rattle.log_spec.specs.Cells.{line, stepsBy, budgetBy, numberBy, cellsBy, beforeBy, callBy, eventLineBy, nextBy, eventsBy}
 use Rattle.log_spec.proofs.Writing.{Writes, writes-none, writes-line, writes-on}
 use Rattle.log_spec.proofs.Leading.{Leads, Further, further}
@@ -80,38 +81,43 @@ module _ (write : Bool) (P : List ℕ) (R : Ready P) where
 
   -- the event lines of a text
   module _ (text : List ℕ) where
+    -- and the hub that they lead to
+    abbrev Behind-them : ℕ → Hub Control → Lines → List ℕ → Type 0
+    Behind-them number h ls r = Leads P r (eventsHub (planIn P) number h ls)
+
     abbrev EventsLog : ℕ → Type 0
     EventsLog left =
         (c : Cursor) → length text ≤ left + c .at → (s : List ℕ) (h : Hub Control) → Leads P s h → (buffer : List ℕ) (at : ℕ)
-        → Writes write (eventsLog (planIn P) (c .number) h (lines (drop (c .at) text))) buffer at (λ r. Unit {0}) (eventsBy write P text left c s buffer at)
+        → Writes write (eventsLog (planIn P) (c .number) h (lines (drop (c .at) text))) buffer at
+        (Behind-them (c .number) h (lines (drop (c .at) text))) (eventsBy write P text left c s buffer at)
 
     no-line : EventsLog 0
-    unfolding eventsBy eventsLog lines
-    no-line c enough s h leads buffer at = rw (drop-of-length-le text {i = c .at} (omega arith)) (writes-none write buffer at _ s tt)
+    unfolding eventsBy eventsLog eventsHub lines
+    no-line c enough s h leads buffer at = rw (drop-of-length-le text {i = c .at} (omega arith)) (writes-none write buffer at _ s leads)
 
     -- the line at a cursor, and those behind it
     module _ (left : ℕ) (again : EventsLog left) (c : Cursor) (enough : length text ≤ suc left + c .at) where
       ended-log : (l : List ℕ) (rest : Lines) → First text c l rest → (s : List ℕ) (h : Hub Control) → Leads P s h → (buffer : List ℕ) (at : ℕ)
-          → Writes write (eventsLog (planIn P) (c .number) h (ended l rest)) buffer at (λ r. Unit {0})
+          → Writes write (eventsLog (planIn P) (c .number) h (ended l rest)) buffer at (Behind-them (c .number) h (ended l rest))
           (nextBy write P text (eventsBy write P text left) (handOut c (ended l rest)) s buffer at)
-      unfolding eventsLog handOut
+      unfolding eventsLog eventsHub handOut
       ended-log l rest f s h leads buffer at =
           let call = callOn (eventOf l) in
           let log = eventLog (planIn P) (c .number) call h in
           let next : Cursor = record { at = c .at + length l + 1; number = nextNumber (c .number) } in
           rw (f .bytes, ← (f .behind))
-          (writes-on write buffer at (λ r. Leads P r (log .hub)) (λ r. Unit {0}) (log .written)
+          (writes-on write buffer at (λ r. Leads P r (log .hub)) (Behind-them (next .number) (log .hub) (lines (drop (next .at) text))) (log .written)
           (eventsLog (planIn P) (next .number) (log .hub) (lines (drop (next .at) text)))
           (eventLineBy write P (c .number) call s buffer at) (eventsBy write P text left next)
           (event-log (c .number) (eventOf l) s h leads buffer at)
           (λ r b z g. again next (omega arith) r (log .hub) g b z))
 
       next-log : (ls : Lines) → lines (drop (c .at) text) ≡ ls → (s : List ℕ) (h : Hub Control) → Leads P s h → (buffer : List ℕ) (at : ℕ)
-          → Writes write (eventsLog (planIn P) (c .number) h ls) buffer at (λ r. Unit {0})
+          → Writes write (eventsLog (planIn P) (c .number) h ls) buffer at (Behind-them (c .number) h ls)
           (nextBy write P text (eventsBy write P text left) (handOut c ls) s buffer at)
-      unfolding eventsLog handOut
-      next-log nothing e s h leads buffer at = writes-none write buffer at _ s tt
-      next-log (unended l) e s h leads buffer at = writes-line write buffer at _ (refusedLine (c .number) 1) s tt
+      unfolding eventsLog eventsHub handOut
+      next-log nothing e s h leads buffer at = writes-none write buffer at _ s leads
+      next-log (unended l) e s h leads buffer at = writes-line write buffer at _ (refusedLine (c .number) 1) s leads
       next-log (ended l rest) e s h leads buffer at = ended-log l rest (first text c l rest e) s h leads buffer at
 
     one-line-more : (left : ℕ) → EventsLog left → EventsLog (suc left)

@@ -19,7 +19,7 @@ use Rattle.rules.specs.Run.{Entry, freshHub, made}
 use Rattle.rules.proofs.Laws.Passes.{Which, which, yes′, no′, sum-same}
 use Rattle.ports.specs.Mask.{digit}
 use Rattle.cells.specs.Layout.{busy-cell, end-cell, timeAt, requestCell, requestOf}
-use Rattle.cells.specs.Decode.{planIn, coreOf}
+use Rattle.cells.specs.Decode.{planIn, coreOf, hubOf}
 use Rattle.cells.specs.Masks as masks
 use Rattle.cells.specs.Fresh.{freshCells}
 use Rattle.cells.specs.Calls.{performBy}
@@ -90,3 +90,7 @@ module _ (P : List ℕ) where
         let t = run-tied P R (l .calls) in
         rw (l .cells, l .hub)
         (budget-kept (planIn P) (madeBy P (l .calls) .cells) (t .kept) ∙ ap (λ (g : Hub Control). budget (planIn P) (g .core)) (t .hub))
+
+    -- the cells that calls lead to are the hub that they lead to
+    pub leads-hub : (s : List ℕ) (h : Hub Control) → Leads s h → hubOf (planIn P) s ≡ h
+    leads-hub s h l = rw (l .cells, l .hub) (run-tied P R (l .calls) .hub)

@@ -9,7 +9,7 @@
 -- Slips and TurningSlips: each wrong hub of "Slips of the turn list", and each wrong way to turn, is told from the
 -- right one by a worked run; and what the wrong hubs are made with is the right hub where nothing is got wrong.
 -- Rejected: each hub that document 01 wants rejected, nearest first, is told from the right one by a worked run
--- on which demand 2 fails of it; of the quiet hub and of the one that repeats a node demand 3 fails too.
+-- on which demand 2 fails of it; of the quiet hub, the resting one and the one that repeats a node demand 3 fails too.
 pub mod Unchanged
 pub mod Admission
 pub mod NoTimeLost
