@@ -15,8 +15,8 @@ use Rattle.ports.specs.Mask.{digit}
 -- 6 is 1 where the latest grant was high; 7 is the number of standing requests. Each hub has 4
 -- cells: its masks and its pointers, of the normal class and of the high one. Behind the hubs stand
 -- four tables of 256 cells, one cell a node: the requests, the reservations in force, the latest
--- accepted ones, and the high grants in the frame. A frame's start passes over whole tables so,
--- several nodes at a time.
+-- accepted ones, and the high grants in the frame. They are tables since a frame's start passes
+-- over whole ones, which the compiler vectorises.
 abbrev pub cells : ℕ
 cells = 1160
 

@@ -46,8 +46,8 @@ pub const MARK: u32 = 1;
 // Port 1 without mark, where a hub starts afresh.
 pub const PORT_1: u32 = 2;
 
-// Behind the hubs stand four tables of MOST_NODES cells, node k's at k - 1 in each, so that the compiler
-// can take several nodes at a time where a frame's start passes over them. Here each table begins.
+// Behind the hubs stand four tables of MOST_NODES cells, with node k's cell at k - 1 in each. Here each of them begins.
+// They are tables since a frame's start passes over whole ones, which the compiler vectorises.
 pub const REQUEST: usize = 136;
 
 pub const FORCE: usize = 392;

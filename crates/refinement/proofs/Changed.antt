@@ -59,7 +59,7 @@ pub record Change (k : ℕ) (s r : List ℕ) : Type 0 where
   pub same : (i : ℕ) → (i ≡ standing-cell → ⊥) → Elsewhere k i → getD r i 0 ≡ getD s i 0
 
 module _ (p : Plan) (D : Drawn p) (k : ℕ) (w : Within (p .nodes) k) (s r : List ℕ) (c : Change k s r) where
-  -- another node's cells are as they were
+  -- another node's cells are as they were: with no more nodes than a table has cells, no two share one
   pub other-cell : (j i : ℕ) → Within (p .nodes) j → (j ≡ k → ⊥) → i < 4 → getD r (nodeCell j i) 0 ≡ getD s (nodeCell j i) 0
   other-cell j i v d u =
       c .same (nodeCell j i) (λ e. omega arith) (omega (arith, w .low, w .up, v .low, v .up, D .few-nodes))
