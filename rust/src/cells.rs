@@ -65,9 +65,8 @@ pub mod cascade {
     pub const HUB_CELLS: usize = 4;
     pub const MASKS: usize = 2;
 
-    /// Where the nodes' cells start, and how many each has.
+    /// Where the nodes' cells start: a table of all nodes' requests, then three more, each with one cell a node.
     pub const NODES: usize = 136;
-    pub const NODE_CELLS: usize = 4;
 
     /// A time has two cells, of which the second is its high half.
     pub const HIGH_HALF: usize = 1;

@@ -49,7 +49,7 @@ fn overfull(p: &Plan, s: &Cascade, k: u32, share: u32) -> bool
     ensures { λ r. ⌜ r ≡ row17 (planIn (now (p .entry))) (coreOf (planIn (now (p .entry))) (now (s .entry))) k (shareOf share) .applies ⌝ }
 {
     let all = frames::loads(p, s);
-    let at = cells::NODES + (k as usize - 1) * cells::PER_NODE + cells::LATEST;
+    let at = cells::LATEST + (k as usize - 1);
     more_than(
         p[plan::FRAME],
         p[plan::OVERHEAD],

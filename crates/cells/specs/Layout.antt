@@ -13,8 +13,10 @@ use Rattle.ports.specs.Mask.{digit}
 -- Cells 0 and 1 are the clock, its low and its high 32 bits; 2 and 3 the end of
 -- a busy line; 4 is 0 while the line rests; 5 is the hub that has control;
 -- 6 is 1 where the latest grant was high; 7 is the number of standing requests. Each hub has 4
--- cells: its masks and its pointers, of the normal class and of the high one. Each node has 4: its
--- request, the reservation in force, the latest accepted one, and its high grants in the frame.
+-- cells: its masks and its pointers, of the normal class and of the high one. Behind the hubs stand
+-- four tables of 256 cells, one cell a node: the requests, the reservations in force, the latest
+-- accepted ones, and the high grants in the frame. They are tables since a frame's start passes
+-- over whole ones, which the compiler vectorises.
 abbrev pub cells : ℕ
 cells = 1160
 
@@ -40,7 +42,7 @@ abbrev pub hubCell : ℕ → ℕ → ℕ
 hubCell g i = 8 + (g - 1) * 4 + i
 
 abbrev pub nodeCell : ℕ → ℕ → ℕ
-nodeCell k i = 136 + (k - 1) * 4 + i
+nodeCell k i = 136 + i * 256 + (k - 1)
 
 -- by whether the class is high
 abbrev pub maskCell : Bool → ℕ → ℕ

@@ -46,18 +46,15 @@ pub const MARK: u32 = 1;
 // Port 1 without mark, where a hub starts afresh.
 pub const PORT_1: u32 = 2;
 
-// Node k's cells begin at NODES + (k - 1) * PER_NODE.
-pub const NODES: usize = 136;
+// Behind the hubs stand four tables of MOST_NODES cells, with node k's cell at k - 1 in each. Here each of them begins.
+// They are tables since a frame's start passes over whole ones, which the compiler vectorises.
+pub const REQUEST: usize = 136;
 
-pub const PER_NODE: usize = 4;
+pub const FORCE: usize = 392;
 
-pub const REQUEST: usize = 0;
+pub const LATEST: usize = 648;
 
-pub const FORCE: usize = 1;
-
-pub const LATEST: usize = 2;
-
-pub const GRANTED: usize = 3;
+pub const GRANTED: usize = 904;
 
 // A request is NORMAL + b or HIGH + b; below NORMAL none stands.
 pub const NORMAL: u32 = 65536;

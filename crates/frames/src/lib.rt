@@ -60,11 +60,11 @@ fn start_cells(s: &mut Cascade, k: u32)
     requires { ⌜ (1 ≤ k) × (k ≤ most-nodes) ⌝ }
     ensures { λ _. ⌜ now (s .exit) ≡ startCells k (now (s .entry)) ⌝ }
 {
-    let at = cells::NODES + (k as usize - 1) * cells::PER_NODE;
-    let share = s[at + cells::LATEST];
-    s[at + cells::REQUEST] = reclassed(share, s[at + cells::REQUEST]);
-    s[at + cells::FORCE] = share;
-    s[at + cells::GRANTED] = 0;
+    let at = k as usize - 1;
+    let share = s[cells::LATEST + at];
+    s[cells::REQUEST + at] = reclassed(share, s[cells::REQUEST + at]);
+    s[cells::FORCE + at] = share;
+    s[cells::GRANTED + at] = 0;
 }
 
 // Node k at a frame's start. Only a request that was high changes what counts.
@@ -72,8 +72,7 @@ fn start_node(p: &Plan, s: &mut Cascade, k: u32)
     requires { ⌜ (1 ≤ k) × (k ≤ most-nodes) ⌝ }
     ensures { λ _. ⌜ now (s .exit) ≡ startNode (now (p .entry)) k (now (s .entry)) ⌝ }
 {
-    let at = cells::NODES + (k as usize - 1) * cells::PER_NODE;
-    let x = s[at + cells::REQUEST];
+    let x = s[cells::REQUEST + (k as usize - 1)];
     start_cells(s, k);
     if x < cells::HIGH {
         return;
@@ -136,7 +135,7 @@ fn loads_onto(p: &Plan, s: &Cascade, n: u32, others: u64) -> u64
     if n == 0 {
         return others;
     }
-    let at = cells::NODES + (n as usize - 1) * cells::PER_NODE + cells::LATEST;
+    let at = cells::LATEST + (n as usize - 1);
     loads_onto(p, s, n - 1, others + small_load(p[plan::OVERHEAD], s[at]))
 }
 

@@ -22,7 +22,7 @@ fn bits_at(s: &Cascade, k: u32) -> u32
     if cells::MOST_NODES < k {
         return 0;
     }
-    let x = s[cells::NODES + (k as usize - 1) * cells::PER_NODE + cells::REQUEST];
+    let x = s[cells::REQUEST + (k as usize - 1)];
     if x < cells::NORMAL {
         return 0;
     }

@@ -73,7 +73,7 @@ fn put_latest(s: &mut Cascade, k: u32, share: u32)
     requires { ⌜ (1 ≤ k) × (k ≤ most-nodes) ⌝ }
     ensures { λ _. ⌜ now (s .exit) ≡ set (now (s .entry)) (latestCell k) share ⌝ }
 {
-    s[cells::NODES + (k as usize - 1) * cells::PER_NODE + cells::LATEST] = share;
+    s[cells::LATEST + (k as usize - 1)] = share;
 }
 
 // (reserve t k n b)

@@ -10,7 +10,7 @@ use lib.ListN.{length, getD}
 use Rattle.rules.specs.Choice.{if_then_else_, sum}
 use Rattle.ports.specs.Mask.{digit}
 use Rattle.rules.specs.Plan.{Plan}
-use Rattle.rules.specs.Drawn.{Within}
+use Rattle.rules.specs.Drawn.{Within, Drawn}
 use Rattle.rules.specs.Core.{countsIn}
 use Rattle.rules.proofs.Laws.Passes.{Which, which, yes′, no′, and-both}
 use Rattle.cells.specs.Layout.{cells, standing-cell, holder-cell, class-cell, nodeCell, maskCell, pointerCell, requestCell, forceCell, grantedCell, latestCell}
@@ -58,20 +58,21 @@ pub record Change (k : ℕ) (s r : List ℕ) : Type 0 where
   pub size : length r ≡ cells
   pub same : (i : ℕ) → (i ≡ standing-cell → ⊥) → Elsewhere k i → getD r i 0 ≡ getD s i 0
 
-module _ (p : Plan) (k : ℕ) (low : 1 ≤ k) (s r : List ℕ) (c : Change k s r) where
-  -- another node's cells are as they were
-  pub other-cell : (j i : ℕ) → 1 ≤ j → (j ≡ k → ⊥) → i < 4 → getD r (nodeCell j i) 0 ≡ getD s (nodeCell j i) 0
-  other-cell j i l d u = c .same (nodeCell j i) (λ e. omega arith) (omega arith)
+module _ (p : Plan) (D : Drawn p) (k : ℕ) (w : Within (p .nodes) k) (s r : List ℕ) (c : Change k s r) where
+  -- another node's cells are as they were: with no more nodes than a table has cells, no two share one
+  pub other-cell : (j i : ℕ) → Within (p .nodes) j → (j ≡ k → ⊥) → i < 4 → getD r (nodeCell j i) 0 ≡ getD s (nodeCell j i) 0
+  other-cell j i v d u =
+      c .same (nodeCell j i) (λ e. omega arith) (omega (arith, w .low, w .up, v .low, v .up, D .few-nodes))
 
-  other-counts : (isHigh : Bool) (j : ℕ) → 1 ≤ j → (j ≡ k → ⊥) → countsAt isHigh j r ≡ countsAt isHigh j s
-  other-counts isHigh j l d =
-      rw (other-cell j 0 l d (omega arith), other-cell j 1 l d (omega arith), other-cell j 3 l d (omega arith))
+  other-counts : (isHigh : Bool) (j : ℕ) → Within (p .nodes) j → (j ≡ k → ⊥) → countsAt isHigh j r ≡ countsAt isHigh j s
+  other-counts isHigh j v d =
+      rw (other-cell j 0 v d (omega arith), other-cell j 1 v d (omega arith), other-cell j 3 v d (omega arith))
 
   pub others-count : (isHigh : Bool) (j : ℕ) → (j ≡ k → ⊥) → countsOf p isHigh r j ≡ countsOf p isHigh s j
   others-count isHigh j d = counts-cells p isHigh r j ∙ go (which (isNode p j)) ∙ sym (counts-cells p isHigh s j)
     where
       go : Which (isNode p j) → (if isNode p j then countsAt isHigh j r else false) ≡ (if isNode p j then countsAt isHigh j s else false)
-      go (yes′ e) = rw e (other-counts isHigh j (node-within p j e .low) d)
+      go (yes′ e) = rw e (other-counts isHigh j (node-within p j e) d)
       go (no′ e) = rw e
 
   -- a mask's cell is none of a node's
@@ -79,12 +80,12 @@ module _ (p : Plan) (k : ℕ) (low : 1 ≤ k) (s r : List ℕ) (c : Change k s r
   mask-cell true g u = c .same (maskCell true g) (λ e. omega arith) (omega arith)
   mask-cell false g u = c .same (maskCell false g) (λ e. omega arith) (omega arith)
 
-  pub right-but : p .hubs ≤ 32 → (isHigh : Bool) → RightBut p k isHigh s → RightBut p k isHigh r
-  right-but few isHigh b =
+  pub right-but : (isHigh : Bool) → RightBut p k isHigh s → RightBut p k isHigh r
+  right-but isHigh b =
       record {
         earlier = b .earlier;
         others = λ j d. others-count isHigh j d ∙ b .others j d;
-        masks = λ g w. mask-cell isHigh g (omega (arith, w .up)) ∙ b .masks g w;
+        masks = λ g v. mask-cell isHigh g (omega (arith, v .up, D .few-hubs)) ∙ b .masks g v;
       }
 
 -- masks that are right are right but for any node

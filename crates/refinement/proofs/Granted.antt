@@ -7,13 +7,13 @@ use native.Mathlib.Omega.{arith}
 use borrow.Author.Tests.{lt-ltb, le-ltb}
 use lib.ListN.{getD, set, length-set}
 use lib.Seq.{getD-set-same, getD-set-other}
-use Rattle.rules.specs.Choice.{if_then_else_, put, sum}
+use Rattle.rules.specs.Choice.{if_then_else_, put}
 use Rattle.rules.specs.Drawn.{Within}
 use Rattle.rules.specs.Call.{Class}
 use Rattle.rules.specs.Core.{Core, none, nothing-reserved}
 use Rattle.rules.specs.Machine.{oneMore}
 use Rattle.rules.specs.Rows.{withRequest}
-use Rattle.rules.proofs.Laws.Passes.{put-same, put-other}
+use Rattle.rules.proofs.Laws.Passes.{put-same, put-other, sum-same}
 use Rattle.ports.specs.Mask.{digit}
 use Rattle.cells.specs.Layout.{standing-cell, nodeCell, grantedCell, classOf, requestOf, shareOf}
 use Rattle.cells.specs.Decode.{planIn, isNode, coreOf, controlOf}
@@ -56,15 +56,16 @@ module _ (P : List ℕ) (R : Ready P) (s : List ℕ) (K : Kept (planIn P) s) (k 
   unfolding counted
   counted-own = getD-set-same s (grantedCell k) more 0 (omega (arith, K .size, w .up, R .drawn .few-nodes))
 
-  counted-kept : (j i : ℕ) → i < 3 → getD counted (nodeCell j i) 0 ≡ getD s (nodeCell j i) 0
+  counted-kept : (j i : ℕ) → Within (planIn P .nodes) j → i < 3 → getD counted (nodeCell j i) 0 ≡ getD s (nodeCell j i) 0
   unfolding counted
-  counted-kept j i u = getD-set-other s (grantedCell k) (nodeCell j i) more 0 (λ e. omega arith)
+  counted-kept j i v u =
+      getD-set-other s (grantedCell k) (nodeCell j i) more 0 (λ e. omega (arith, w .low, v .low, v .up, R .drawn .few-nodes))
 
   counted-standing : getD counted standing-cell 0 ≡ standingIn (planIn P .nodes) counted
   unfolding counted
   counted-standing =
       getD-set-other s (grantedCell k) standing-cell more 0 (λ e. omega arith) ∙ K .standing
-      ∙ sym (λ i. sum (planIn P .nodes) (λ j. digit (stands (counted-kept j 0 (omega arith) i))))
+      ∙ sym (sum-same (planIn P .nodes) _ _ (λ j v. ap (λ (x : ℕ). digit (stands x)) (counted-kept j 0 v (omega arith))))
 
   more-is : more ≡ oneMore (classOf isHigh) (coreOf (planIn P) s .granted k)
   unfolding coreOf more
@@ -84,26 +85,25 @@ module _ (P : List ℕ) (R : Ready P) (s : List ℕ) (K : Kept (planIn P) s) (k 
       }
   unfolding coreOf
   counted-core =
-      change-core (planIn P) (R .drawn .few-hubs) k (w .low) s counted counted-change _ refl refl
+      change-core (planIn P) (R .drawn) k w s counted counted-change _ refl refl
       (λ j d. refl) (λ j d. refl) (λ j d. refl)
       (λ j d. put-other (coreOf (planIn P) s .granted) k (oneMore (classOf isHigh) (coreOf (planIn P) s .granted k)) j d)
-      (ap (λ (y : ℕ). if isNode (planIn P) k then requestOf y else none) (counted-kept k 0 (omega arith)))
-      (ap (λ (y : ℕ). if isNode (planIn P) k then shareOf y else nothing-reserved) (counted-kept k 1 (omega arith)))
-      (ap (λ (y : ℕ). if isNode (planIn P) k then shareOf y else nothing-reserved) (counted-kept k 2 (omega arith)))
+      (ap (λ (y : ℕ). if isNode (planIn P) k then requestOf y else none) (counted-kept k 0 w (omega arith)))
+      (ap (λ (y : ℕ). if isNode (planIn P) k then shareOf y else nothing-reserved) (counted-kept k 1 w (omega arith)))
+      (ap (λ (y : ℕ). if isNode (planIn P) k then shareOf y else nothing-reserved) (counted-kept k 2 w (omega arith)))
       (own-field (planIn P) k w (λ x. x) 0 (getD counted (grantedCell k) 0) ∙ counted-own ∙ more-is
       ∙ sym (put-same (coreOf (planIn P) s .granted) k (oneMore (classOf isHigh) (coreOf (planIn P) s .granted k))))
 
   pub grant-left : Left (planIn P) (grantNode P isHigh k s) (grantedCore k (classOf isHigh) (coreOf (planIn P) s)) (controlOf (planIn P) s)
   unfolding grantNode counted more
   grant-left =
-      let few-hubs = R .drawn .few-hubs in
-      let but = change-but (planIn P) few-hubs k (w .low) s counted counted-change (kept-but (planIn P) s K) counted-standing in
+      let but = change-but (planIn P) (R .drawn) k w s counted counted-change (kept-but (planIn P) s K) counted-standing in
       let l =
       request-left P R counted (counted-change .size) k w
-      (λ b. right-but (planIn P) k (w .low) s counted counted-change few-hubs b (kept-right (planIn P) k s K b)) but 0 in
+      (λ b. right-but (planIn P) (R .drawn) k w s counted counted-change b (kept-right (planIn P) k s K b)) but 0 in
       rw (le-ltb k 1 (w .low), le-ltb 256 k (omega (arith, w .up, R .drawn .few-nodes)))
       (record {
         kept = l .kept;
         core = l .core ∙ ap (withRequest k none) counted-core;
-        control = l .control ∙ change-control (planIn P) few-hubs k (w .low) s counted counted-change;
+        control = l .control ∙ change-control (planIn P) (R .drawn) k w s counted counted-change;
       })

@@ -11,7 +11,7 @@ use lib.ListN.{length, getD, set, length-set}
 use lib.Seq.{getD-set-same, getD-set-other}
 use Rattle.rules.specs.Choice.{if_then_else_}
 use Rattle.rules.specs.Plan.{Plan}
-use Rattle.rules.specs.Drawn.{Within}
+use Rattle.rules.specs.Drawn.{Within, Drawn}
 use Rattle.rules.specs.Core.{Core, none, nothing-reserved}
 use Rattle.rules.specs.Call.{Class}
 use Rattle.rules.specs.Control.{Control}
@@ -58,7 +58,7 @@ agree {A} {x} {y} k here there j = go (which (eqb j k))
     go (yes′ e) = subst (λ (i : ℕ). x i ≡ y i) (sym (eqb-true j k e)) here
     go (no′ e) = there j (eqb-false j k e)
 
-module _ (p : Plan) (few : p .hubs ≤ 32) (k : ℕ) (low : 1 ≤ k) (s r : List ℕ) (c : Change k s r) where
+module _ (p : Plan) (D : Drawn p) (k : ℕ) (w : Within (p .nodes) k) (s r : List ℕ) (c : Change k s r) where
   header : (i : ℕ) → i < 7 → getD r i 0 ≡ getD s i 0
   header i l = c .same i (λ e. omega arith) (omega arith)
 
@@ -87,7 +87,7 @@ module _ (p : Plan) (few : p .hubs ≤ 32) (k : ℕ) (low : 1 ≤ k) (s r : List
       at d g = go (which (isHub p g))
         where
           go : Which (isHub p g) → controlOf p r .pointer d g ≡ controlOf p s .pointer d g
-          go (yes′ e) = rw (e, pointer-cell (isClassHigh d) g (omega (arith, hub-within p g e .up)))
+          go (yes′ e) = rw (e, pointer-cell (isClassHigh d) g (omega (arith, hub-within p g e .up, D .few-hubs)))
           go (no′ e) = rw e
 
   -- a field of the core that is read from one cell of each node: as it was for the others
@@ -97,7 +97,7 @@ module _ (p : Plan) (few : p .hubs ≤ 32) (k : ℕ) (low : 1 ≤ k) (s r : List
     where
       go : Which (isNode p j)
           → (if isNode p j then read (getD r (nodeCell j i) 0) else default) ≡ (if isNode p j then read (getD s (nodeCell j i) 0) else default)
-      go (yes′ e) = rw (e, other-cell p k low s r c j i (node-within p j e .low) d l)
+      go (yes′ e) = rw (e, other-cell p D k w s r c j i (node-within p j e) d l)
       go (no′ e) = rw e
 
   -- the clock, the line and what the others have are as they were
@@ -120,7 +120,7 @@ module _ (p : Plan) (few : p .hubs ≤ 32) (k : ℕ) (low : 1 ≤ k) (s r : List
         standing = n;
         holder = subst (λ (x : ℕ). Within (p .hubs) x) (sym (header 5 (omega arith))) (K .holder);
         class = subst (λ (x : ℕ). x ≤ 1) (sym (header 6 (omega arith))) (K .class);
-        pointers = λ isHigh g w. subst Pointing (sym (pointer-cell isHigh g (omega (arith, w .up)))) (K .pointers isHigh g w);
+        pointers = λ isHigh g v. subst Pointing (sym (pointer-cell isHigh g (omega (arith, v .up, D .few-hubs)))) (K .pointers isHigh g v);
       }
 
 -- with its masks mended, a table whose core and control are known is left
@@ -140,9 +140,6 @@ module _ (P : List ℕ) (R : Ready P) (s : List ℕ) (size : length s ≡ cells)
     (right : (isHigh : Bool) → RightBut (planIn P) k isHigh s) (K : KeptBut (planIn P) s) (x : ℕ) where
   few-nodes : planIn P .nodes ≤ 256
   few-nodes = R .drawn .few-nodes
-
-  few-hubs : planIn P .hubs ≤ 32
-  few-hubs = R .drawn .few-hubs
 
   number : ℕ
   number = standingAfter (getD s standing-cell 0) (getD s (requestCell k) 0) x
@@ -178,15 +175,15 @@ module _ (P : List ℕ) (R : Ready P) (s : List ℕ) (size : length s ≡ cells)
       ∙ ap (λ (n : ℕ). standingAfter n (getD s (requestCell k) 0) x) (K .standing)
       ∙ sym
       (standing-after (planIn P .nodes) few-nodes k w s asked
-      (λ j l d. other-cell (planIn P) k (w .low) s asked asked-change j 0 l d (omega arith)) x asked-own)
+      (λ j v d. other-cell (planIn P) (R .drawn) k w s asked asked-change j 0 v d (omega arith)) x asked-own)
 
   asked-but : KeptBut (planIn P) asked
-  asked-but = change-but (planIn P) few-hubs k (w .low) s asked asked-change K asked-standing
+  asked-but = change-but (planIn P) (R .drawn) k w s asked asked-change K asked-standing
 
   asked-core : coreOf (planIn P) asked ≡ withRequest k (requestOf x) (coreOf (planIn P) s)
   unfolding coreOf
   asked-core =
-      change-core (planIn P) few-hubs k (w .low) s asked asked-change (withRequest k (requestOf x) (coreOf (planIn P) s)) refl refl
+      change-core (planIn P) (R .drawn) k w s asked asked-change (withRequest k (requestOf x) (coreOf (planIn P) s)) refl refl
       (λ j d. put-other (coreOf (planIn P) s .request) k (requestOf x) j d) (λ j d. refl) (λ j d. refl) (λ j d. refl)
       (own-field (planIn P) k w requestOf none (getD asked (requestCell k) 0) ∙ ap requestOf asked-own
       ∙ sym (put-same (coreOf (planIn P) s .request) k (requestOf x)))
@@ -198,5 +195,5 @@ module _ (P : List ℕ) (R : Ready P) (s : List ℕ) (size : length s ≡ cells)
   unfolding putRequest asked number
   request-left =
       rw (le-ltb k 1 (w .low), le-ltb 256 k (omega (arith, w .up, few-nodes)))
-      (mended-left P R asked (asked-change .size) k w (λ isHigh. right-but (planIn P) k (w .low) s asked asked-change few-hubs isHigh (right isHigh))
-      asked-but asked-core (change-control (planIn P) few-hubs k (w .low) s asked asked-change))
+      (mended-left P R asked (asked-change .size) k w (λ isHigh. right-but (planIn P) (R .drawn) k w s asked asked-change isHigh (right isHigh))
+      asked-but asked-core (change-control (planIn P) (R .drawn) k w s asked asked-change))

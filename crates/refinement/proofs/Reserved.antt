@@ -6,11 +6,11 @@ use mathlib.Core.List.{List}
 use native.Mathlib.Omega.{arith}
 use lib.ListN.{getD, set, length-set}
 use lib.Seq.{getD-set-same, getD-set-other}
-use Rattle.rules.specs.Choice.{if_then_else_, sum}
+use Rattle.rules.specs.Choice.{if_then_else_}
 use Rattle.rules.specs.Drawn.{Within}
 use Rattle.rules.specs.Core.{none, nothing-reserved}
 use Rattle.rules.specs.Rows.{withLatest}
-use Rattle.rules.proofs.Laws.Passes.{put-same, put-other}
+use Rattle.rules.proofs.Laws.Passes.{put-same, put-other, sum-same}
 use Rattle.ports.specs.Mask.{digit}
 use Rattle.cells.specs.Layout.{standing-cell, nodeCell, latestCell, shareOf, shareCode, requestOf}
 use Rattle.cells.specs.Decode.{planIn, isNode, coreOf, controlOf}
@@ -39,52 +39,54 @@ module _ (P : List ℕ) (R : Ready P) (s : List ℕ) (K : Kept (planIn P) s) (k 
   unfolding reserved
   reserved-own = getD-set-same s (latestCell k) (shareCode n b) 0 (omega (arith, K .size, w .up, R .drawn .few-nodes))
 
-  reserved-kept : (j i : ℕ) → i < 4 → (i ≡ 2 → ⊥) → getD reserved (nodeCell j i) 0 ≡ getD s (nodeCell j i) 0
+  reserved-kept : (j i : ℕ) → Within (planIn P .nodes) j → i < 4 → (i ≡ 2 → ⊥) → getD reserved (nodeCell j i) 0 ≡ getD s (nodeCell j i) 0
   unfolding reserved
-  reserved-kept j i l d = getD-set-other s (latestCell k) (nodeCell j i) (shareCode n b) 0 (λ e. omega arith)
+  reserved-kept j i v l d =
+      getD-set-other s (latestCell k) (nodeCell j i) (shareCode n b) 0
+      (λ e. omega (arith, w .low, w .up, v .low, v .up, R .drawn .few-nodes))
 
   reserved-standing : getD reserved standing-cell 0 ≡ standingIn (planIn P .nodes) reserved
   unfolding reserved
   reserved-standing =
       getD-set-other s (latestCell k) standing-cell (shareCode n b) 0 (λ e. omega arith) ∙ K .standing
-      ∙ sym (λ i. sum (planIn P .nodes) (λ j. digit (stands (reserved-kept j 0 (omega arith) (λ e. omega arith) i))))
+      ∙ sym (sum-same (planIn P .nodes) _ _ (λ j v. ap (λ (x : ℕ). digit (stands x)) (reserved-kept j 0 v (omega arith) (λ e. omega arith))))
 
   -- what counts is as it was
   reserved-counts : (isHigh : Bool) → countsOf (planIn P) isHigh reserved ≡ countsOf (planIn P) isHigh s
-  reserved-counts isHigh i j = agree k own (others-count (planIn P) k (w .low) s reserved reserved-change isHigh) j i
+  reserved-counts isHigh i j = agree k own (others-count (planIn P) (R .drawn) k w s reserved reserved-change isHigh) j i
     where
       own : countsOf (planIn P) isHigh reserved k ≡ countsOf (planIn P) isHigh s k
       own =
           counts-cells (planIn P) isHigh reserved k
           ∙ (λ z. if isNode (planIn P) k then
-          countsBy isHigh (reserved-kept k 0 (omega arith) (λ e. omega arith) z) (reserved-kept k 3 (omega arith) (λ e. omega arith) z)
-          (reserved-kept k 1 (omega arith) (λ e. omega arith) z) else false)
+          countsBy isHigh (reserved-kept k 0 w (omega arith) (λ e. omega arith) z) (reserved-kept k 3 w (omega arith) (λ e. omega arith) z)
+          (reserved-kept k 1 w (omega arith) (λ e. omega arith) z) else false)
           ∙ sym (counts-cells (planIn P) isHigh s k)
 
   reserved-core : coreOf (planIn P) reserved ≡ withLatest k (record { packets = n; bits = b }) (coreOf (planIn P) s)
   unfolding coreOf
   reserved-core =
-      change-core (planIn P) (R .drawn .few-hubs) k (w .low) s reserved reserved-change
+      change-core (planIn P) (R .drawn) k w s reserved reserved-change
       (withLatest k (record { packets = n; bits = b }) (coreOf (planIn P) s)) refl refl (λ j d. refl) (λ j d. refl)
       (λ j d. put-other (coreOf (planIn P) s .latest) k (record { packets = n; bits = b }) j d) (λ j d. refl)
-      (ap (λ (y : ℕ). if isNode (planIn P) k then requestOf y else none) (reserved-kept k 0 (omega arith) (λ e. omega arith)))
-      (ap (λ (y : ℕ). if isNode (planIn P) k then shareOf y else nothing-reserved) (reserved-kept k 1 (omega arith) (λ e. omega arith)))
+      (ap (λ (y : ℕ). if isNode (planIn P) k then requestOf y else none) (reserved-kept k 0 w (omega arith) (λ e. omega arith)))
+      (ap (λ (y : ℕ). if isNode (planIn P) k then shareOf y else nothing-reserved) (reserved-kept k 1 w (omega arith) (λ e. omega arith)))
       (own-field (planIn P) k w shareOf nothing-reserved (getD reserved (latestCell k) 0) ∙ ap shareOf reserved-own ∙ share-read n b u
       ∙ sym (put-same (coreOf (planIn P) s .latest) k (record { packets = n; bits = b })))
-      (ap (λ (y : ℕ). if isNode (planIn P) k then y else 0) (reserved-kept k 3 (omega arith) (λ e. omega arith)))
+      (ap (λ (y : ℕ). if isNode (planIn P) k then y else 0) (reserved-kept k 3 w (omega arith) (λ e. omega arith)))
 
   pub reserve-left : Left (planIn P) (set s (latestCell k) (shareCode n b)) (withLatest k (record { packets = n; bits = b }) (coreOf (planIn P) s))
       (controlOf (planIn P) s)
   unfolding reserved
   reserve-left =
       let few = R .drawn .few-hubs in
-      let but = change-but (planIn P) few k (w .low) s reserved reserved-change (kept-but (planIn P) s K) reserved-standing in
+      let but = change-but (planIn P) (R .drawn) k w s reserved reserved-change (kept-but (planIn P) s K) reserved-standing in
       record {
         kept =
             record {
               size = reserved-change .size;
               masks = λ isHigh g v.
-                  mask-cell (planIn P) k (w .low) s reserved reserved-change isHigh g (omega (arith, v .up, few))
+                  mask-cell (planIn P) (R .drawn) k w s reserved reserved-change isHigh g (omega (arith, v .up, few))
                   ∙ subst (λ (f : ℕ → Bool). MasksRight (planIn P) isHigh f s) (sym (reserved-counts isHigh)) (K .masks isHigh) g v;
               standing = but .standing;
               holder = but .holder;
@@ -92,5 +94,5 @@ module _ (P : List ℕ) (R : Ready P) (s : List ℕ) (K : Kept (planIn P) s) (k 
               pointers = but .pointers;
             };
         core = reserved-core;
-        control = change-control (planIn P) few k (w .low) s reserved reserved-change;
+        control = change-control (planIn P) (R .drawn) k w s reserved reserved-change;
       }

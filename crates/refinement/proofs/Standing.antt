@@ -29,7 +29,7 @@ sum-small : (n : ℕ) (f : ℕ → ℕ) → ((k : ℕ) → f k ≤ 1) → sum n 
 sum-small n f h = omega (arith, sum-mono n f (λ k. 1) (λ k w. h k), sum-ones n)
 
 module _ (n : ℕ) (few : n ≤ 256) (k : ℕ) (w : Within n k) (s r : List ℕ)
-    (others : (j : ℕ) → 1 ≤ j → (j ≡ k → ⊥) → getD r (requestCell j) 0 ≡ getD s (requestCell j) 0) where
+    (others : (j : ℕ) → Within n j → (j ≡ k → ⊥) → getD r (requestCell j) 0 ≡ getD s (requestCell j) 0) where
   stood : ℕ → ℕ
   stood j = digit (stands (getD s (requestCell j) 0))
 
@@ -46,7 +46,7 @@ module _ (n : ℕ) (few : n ≤ 256) (k : ℕ) (w : Within n k) (s r : List ℕ)
       go j v (yes′ t) =
           let q = eqb-true j k t in
           rw (t, q, e)
-      go j v (no′ t) = rw (t, others j (v .low) (eqb-false j k t))
+      go j v (no′ t) = rw (t, others j v (eqb-false j k t))
 
   pub standing-after : (x : ℕ) → getD r (requestCell k) 0 ≡ x
       → standingIn n r ≡ standingAfter (standingIn n s) (getD s (requestCell k) 0) x

@@ -125,7 +125,7 @@ module _ (P : List ℕ) (R : Ready P) (s : List ℕ) (K : Kept (planIn P) s) (k 
   unfolding coreOf share old new
   start-core =
       let c = coreOf (planIn P) s in
-      change-core (planIn P) (R .drawn .few-hubs) k (w .low) s (startCells k s) start-change (startedAt k c) refl refl
+      change-core (planIn P) (R .drawn) k w s (startCells k s) start-change (startedAt k c) refl refl
       (λ j d. put-other (c .request) k (reclassed (c .latest k) (c .request k)) j d)
       (λ j d. put-other (c .force) k (c .latest k) j d)
       (λ j d. refl)
@@ -143,7 +143,7 @@ module _ (P : List ℕ) (R : Ready P) (s : List ℕ) (K : Kept (planIn P) s) (k 
   start-standing : getD (startCells k s) standing-cell 0 ≡ standingIn (planIn P .nodes) (startCells k s)
   unfolding share old new startCells
   start-standing =
-      low ∙ K .standing ∙ sym (sum-same (planIn P .nodes) _ _ (λ j v. go j (v .low) (which (eqb j k))))
+      low ∙ K .standing ∙ sym (sum-same (planIn P .nodes) _ _ (λ j v. go j v (which (eqb j k))))
     where
       low : getD (startCells k s) standing-cell 0 ≡ getD s standing-cell 0
       low =
@@ -151,16 +151,16 @@ module _ (P : List ℕ) (R : Ready P) (s : List ℕ) (K : Kept (planIn P) s) (k 
           ∙ getD-set-other (set s (requestCell k) new) (forceCell k) standing-cell share 0 (λ e. omega arith)
           ∙ getD-set-other s (requestCell k) standing-cell new 0 (λ e. omega arith)
 
-      go : (j : ℕ) → 1 ≤ j → Which (eqb j k)
+      go : (j : ℕ) → Within (planIn P .nodes) j → Which (eqb j k)
           → digit (stands (getD (startCells k s) (requestCell j) 0)) ≡ digit (stands (getD s (requestCell j) 0))
-      go j l (yes′ e) =
+      go j v (yes′ e) =
           subst (λ (i : ℕ). digit (stands (getD (startCells k s) (requestCell i) 0)) ≡ digit (stands (getD s (requestCell i) 0))) (sym (eqb-true j k e))
           (ap (λ (x : ℕ). digit (stands x)) start-request ∙ ap digit (reclassed-cell share old .stood))
-      go j l (no′ e) =
-          ap (λ (x : ℕ). digit (stands x)) (other-cell (planIn P) k (w .low) s (startCells k s) start-change j 0 l (eqb-false j k e) (omega arith))
+      go j v (no′ e) =
+          ap (λ (x : ℕ). digit (stands x)) (other-cell (planIn P) (R .drawn) k w s (startCells k s) start-change j 0 v (eqb-false j k e) (omega arith))
 
   start-but : KeptBut (planIn P) (startCells k s)
-  start-but = change-but (planIn P) (R .drawn .few-hubs) k (w .low) s (startCells k s) start-change (kept-but (planIn P) s K) start-standing
+  start-but = change-but (planIn P) (R .drawn) k w s (startCells k s) start-change (kept-but (planIn P) s K) start-standing
 
   -- a request that was not high counts as it did
   start-counts : ltb old 131072 ≡ true → (isHigh : Bool) → countsAt isHigh k (startCells k s) ≡ countsAt isHigh k s
@@ -181,7 +181,7 @@ module _ (P : List ℕ) (R : Ready P) (s : List ℕ) (K : Kept (planIn P) s) (k 
   start-masks : ltb old 131072 ≡ true → (isHigh : Bool) → MasksRight (planIn P) isHigh (countsOf (planIn P) isHigh (startCells k s)) (startCells k s)
   start-masks e isHigh =
       subst (λ (f : ℕ → Bool). MasksRight (planIn P) isHigh f (startCells k s)) (sym same)
-      (λ g v. mask-cell (planIn P) k (w .low) s (startCells k s) start-change isHigh g (omega (arith, v .up, R .drawn .few-hubs)) ∙ K .masks isHigh g v)
+      (λ g v. mask-cell (planIn P) (R .drawn) k w s (startCells k s) start-change isHigh g (omega (arith, v .up, R .drawn .few-hubs)) ∙ K .masks isHigh g v)
     where
       own : countsOf (planIn P) isHigh (startCells k s) k ≡ countsOf (planIn P) isHigh s k
       own =
@@ -190,14 +190,14 @@ module _ (P : List ℕ) (R : Ready P) (s : List ℕ) (K : Kept (planIn P) s) (k 
           ∙ sym (counts-cells (planIn P) isHigh s k)
 
       same : countsOf (planIn P) isHigh (startCells k s) ≡ countsOf (planIn P) isHigh s
-      same i j = agree k own (others-count (planIn P) k (w .low) s (startCells k s) start-change isHigh) j i
+      same i j = agree k own (others-count (planIn P) (R .drawn) k w s (startCells k s) start-change isHigh) j i
 
   pub node-left : Left (planIn P) (startNode P k s) (startedAt k (coreOf (planIn P) s)) (controlOf (planIn P) s)
   unfolding startNode old
   node-left = go (which (ltb old 131072))
     where
       control : controlOf (planIn P) (startCells k s) ≡ controlOf (planIn P) s
-      control = change-control (planIn P) (R .drawn .few-hubs) k (w .low) s (startCells k s) start-change
+      control = change-control (planIn P) (R .drawn) k w s (startCells k s) start-change
 
       go : Which (ltb old 131072) → Left (planIn P) (startNode P k s) (startedAt k (coreOf (planIn P) s)) (controlOf (planIn P) s)
       go (yes′ e) =
@@ -218,7 +218,7 @@ module _ (P : List ℕ) (R : Ready P) (s : List ℕ) (K : Kept (planIn P) s) (k 
       go (no′ e) =
           rw e
           (mended-left P R (startCells k s) (start-change .size) k w
-          (λ isHigh. right-but (planIn P) k (w .low) s (startCells k s) start-change (R .drawn .few-hubs) isHigh (kept-right (planIn P) k s K isHigh))
+          (λ isHigh. right-but (planIn P) (R .drawn) k w s (startCells k s) start-change isHigh (kept-right (planIn P) k s K isHigh))
           start-but start-core control)
 
 -- ---- all nodes, n to 1

@@ -111,19 +111,19 @@ pub fn mend_node(p: &Plan, s: &mut Cascade, k: u32)
     if cells::MOST_NODES < k {
         return;
     }
-    let at = cells::NODES + (k as usize - 1) * cells::PER_NODE;
+    let at = k as usize - 1;
     let own = plan_tree::NODES + (k as usize - 1) * plan_tree::PER_NODE;
     let normal = counts(
         false,
-        s[at + cells::REQUEST],
-        s[at + cells::GRANTED],
-        s[at + cells::FORCE],
+        s[cells::REQUEST + at],
+        s[cells::GRANTED + at],
+        s[cells::FORCE + at],
     );
     let high = counts(
         true,
-        s[at + cells::REQUEST],
-        s[at + cells::GRANTED],
-        s[at + cells::FORCE],
+        s[cells::REQUEST + at],
+        s[cells::GRANTED + at],
+        s[cells::FORCE + at],
     );
     let g = p[own + plan_tree::NODE_HUB];
     let q = p[own + plan_tree::NODE_PORT];
@@ -157,9 +157,9 @@ pub fn put_request(p: &Plan, s: &mut Cascade, k: u32, x: u32)
     if cells::MOST_NODES < k {
         return;
     }
-    let at = cells::NODES + (k as usize - 1) * cells::PER_NODE;
-    s[cells::STANDING] = standing_after(s[cells::STANDING], s[at + cells::REQUEST], x);
-    s[at + cells::REQUEST] = x;
+    let at = cells::REQUEST + (k as usize - 1);
+    s[cells::STANDING] = standing_after(s[cells::STANDING], s[at], x);
+    s[at] = x;
     mend_node(p, s, k);
 }
 
@@ -182,7 +182,7 @@ pub fn grant_node(p: &Plan, s: &mut Cascade, high: bool, k: u32)
     if cells::MOST_NODES < k {
         return;
     }
-    let at = cells::NODES + (k as usize - 1) * cells::PER_NODE + cells::GRANTED;
+    let at = cells::GRANTED + (k as usize - 1);
     s[at] = granted_more(high, s[at]);
     put_request(p, s, k, 0);
 }

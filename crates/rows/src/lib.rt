@@ -79,11 +79,11 @@ fn share_at(p: &Plan, s: &Cascade, t: u64, k: u32) -> u32
     requires { ⌜ Within (planIn (now p) .nodes) k ⌝ }
     ensures { λ r. ⌜ r ≡ (if newFrame (planIn (now (p .entry))) t (now (s .entry)) then getD (now (s .entry)) (latestCell k) 0 else getD (now (s .entry)) (forceCell k) 0) ⌝ }
 {
-    let at = cells::NODES + (k as usize - 1) * cells::PER_NODE;
+    let at = k as usize - 1;
     if frames::new_frame(p, s, t) {
-        return s[at + cells::LATEST];
+        return s[cells::LATEST + at];
     }
-    s[at + cells::FORCE]
+    s[cells::FORCE + at]
 }
 
 // 16, of a request of a node of the plan.

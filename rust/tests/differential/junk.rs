@@ -24,8 +24,8 @@ enum Junk {
     Real,
 }
 
-/// A cascade's figures, hubs and first node: the cells that every call looks at lie among these.
-const FRONT: usize = cascade::NODES + cascade::NODE_CELLS;
+/// A cascade's figures, hubs and first requests: the cells that every call looks at lie among these.
+const FRONT: usize = cascade::NODES + 4;
 
 const JUNKS: [Junk; 7] =
     [Junk::Uniform, Junk::Small, Junk::Shaped, Junk::Mutated, Junk::Ones, Junk::Zeros, Junk::Real];

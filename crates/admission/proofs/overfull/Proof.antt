@@ -13,14 +13,8 @@ loads-requires c κs = search needs
 sub-at : tie.Need-sub-at
 sub-at c = search needs
 
-mul-at : tie.Need-mul-at
-mul-at c = search needs
-
 add-at : tie.Need-add-at
 add-at c = search needs
-
-add-at-2 : tie.Need-add-at-2
-add-at-2 c = search needs
 
 element-copy-out-more-than : tie.Need-element-copy-out-more-than
 element-copy-out-more-than c = search needs
@@ -54,9 +48,7 @@ overfull-spec =
     (tie.spec
     loads-requires
     sub-at
-    mul-at
     add-at
-    add-at-2
     element-copy-out-more-than
     element-copy-out-more-than-2
     element-copy-out-more-than-3

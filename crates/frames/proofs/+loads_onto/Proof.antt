@@ -32,14 +32,8 @@ loads-onto-returns t c = let a = c .before .args in (no-load (a .p .now) (a .s .
 loads-onto-sub-at : (t : ℕ) → loads-onto-lts.Need-sub-at (met t) (loads-onto-at t) loads-onto.Post
 loads-onto-sub-at t c = search needs
 
-loads-onto-mul-at : (t : ℕ) → loads-onto-lts.Need-mul-at (met t) (loads-onto-at t) loads-onto.Post
-loads-onto-mul-at t c = search needs
-
 loads-onto-add-at : (t : ℕ) → loads-onto-lts.Need-add-at (met t) (loads-onto-at t) loads-onto.Post
 loads-onto-add-at t c = search needs
-
-loads-onto-add-at-2 : (t : ℕ) → loads-onto-lts.Need-add-at-2 (met t) (loads-onto-at t) loads-onto.Post
-loads-onto-add-at-2 t c = search needs
 
 loads-onto-sub-loads-onto : (t : ℕ) → loads-onto-lts.Need-sub-loads-onto (met t) (loads-onto-at t) loads-onto.Post
 loads-onto-sub-loads-onto t c = search needs
@@ -74,9 +68,7 @@ pub +loads-onto-spec : {M : Type 1} → statement M
     loads-onto.Post
     (loads-onto-returns t)
     (loads-onto-sub-at t)
-    (loads-onto-mul-at t)
     (loads-onto-add-at t)
-    (loads-onto-add-at-2 t)
     (loads-onto-sub-loads-onto t)
     (loads-onto-element-copy-out-small-load t)
     (loads-onto-mul-small-load t)

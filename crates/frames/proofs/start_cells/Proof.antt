@@ -7,12 +7,6 @@ use Rattle.frames.proofs.start_cells.Tie as tie
 sub-at : tie.Need-sub-at
 sub-at c = search needs
 
-mul-at : tie.Need-mul-at
-mul-at c = search needs
-
-add-at : tie.Need-add-at
-add-at c = search needs
-
 add-share : tie.Need-add-share
 add-share c = search needs
 
@@ -70,8 +64,6 @@ start-cells-spec =
     tie.close
     (tie.spec
     sub-at
-    mul-at
-    add-at
     add-share
     mul-share
     element-copy-out-share

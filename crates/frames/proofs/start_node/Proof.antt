@@ -6,14 +6,8 @@ use Rattle.frames.proofs.Starting.{starts-low, starts-high}
 use Rattle.frames.proofs.start_node.Statement.{statement}
 use Rattle.frames.proofs.start_node.Tie as tie
 
-sub-at : tie.Need-sub-at
-sub-at c = search needs
-
-mul-at : tie.Need-mul-at
-mul-at c = search needs
-
-add-at : tie.Need-add-at
-add-at c = search needs
+sub-x : tie.Need-sub-x
+sub-x c = search needs
 
 add-x : tie.Need-add-x
 add-x c = search needs
@@ -47,9 +41,7 @@ pub start-node-spec : {M : Type 1} → statement M
 start-node-spec =
     tie.close
     (tie.spec
-    sub-at
-    mul-at
-    add-at
+    sub-x
     add-x
     mul-x
     element-copy-out-x

@@ -17,14 +17,8 @@ returns-2 c =
 sub-at : tie.Need-sub-at
 sub-at c = search needs
 
-mul-at : tie.Need-mul-at
-mul-at c = search needs
-
 add-at : tie.Need-add-at
 add-at c = search needs
-
-add-at-2 : tie.Need-add-at-2
-add-at-2 c = search needs
 
 mul-granted-more : tie.Need-mul-granted-more
 mul-granted-more c = search needs
@@ -59,9 +53,7 @@ grant-node-spec =
     returns
     returns-2
     sub-at
-    mul-at
     add-at
-    add-at-2
     mul-granted-more
     element-copy-out-granted-more
     granted-more-requires

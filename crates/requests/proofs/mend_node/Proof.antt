@@ -17,12 +17,6 @@ returns-2 c =
 sub-at : tie.Need-sub-at
 sub-at c = search needs
 
-mul-at : tie.Need-mul-at
-mul-at c = search needs
-
-add-at : tie.Need-add-at
-add-at c = search needs
-
 sub-own : tie.Need-sub-own
 sub-own c = search needs
 
@@ -134,8 +128,6 @@ mend-node-spec =
     returns
     returns-2
     sub-at
-    mul-at
-    add-at
     sub-own
     mul-own
     add-own

@@ -17,17 +17,11 @@ returns-2 c =
 sub-at : tie.Need-sub-at
 sub-at c = search needs
 
-mul-at : tie.Need-mul-at
-mul-at c = search needs
-
 add-at : tie.Need-add-at
 add-at c = search needs
 
 element-copy-out-standing-after : tie.Need-element-copy-out-standing-after
 element-copy-out-standing-after c = search needs
-
-add-standing-after : tie.Need-add-standing-after
-add-standing-after c = search needs
 
 mul-standing-after : tie.Need-mul-standing-after
 mul-standing-after c = search needs
@@ -40,9 +34,6 @@ standing-after-requires c κs = search needs
 
 element-write-s : tie.Need-element-write-s
 element-write-s c = search needs
-
-add-s : tie.Need-add-s
-add-s c = search needs
 
 mul-s : tie.Need-mul-s
 mul-s c = search needs
@@ -68,15 +59,12 @@ put-request-spec =
     returns
     returns-2
     sub-at
-    mul-at
     add-at
     element-copy-out-standing-after
-    add-standing-after
     mul-standing-after
     element-copy-out-standing-after-2
     standing-after-requires
     element-write-s
-    add-s
     mul-s
     element-write-s-2
     mend-node-requires

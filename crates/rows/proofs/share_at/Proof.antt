@@ -7,12 +7,6 @@ use Rattle.rows.proofs.share_at.Tie as tie
 sub-at : tie.Need-sub-at
 sub-at c = search needs
 
-mul-at : tie.Need-mul-at
-mul-at c = search needs
-
-add-at : tie.Need-add-at
-add-at c = search needs
-
 new-frame-requires : tie.Need-new-frame-requires
 new-frame-requires c κs = search needs
 
@@ -45,8 +39,6 @@ share-at-spec =
     tie.close
     (tie.spec
     sub-at
-    mul-at
-    add-at
     new-frame-requires
     add-result
     mul-result

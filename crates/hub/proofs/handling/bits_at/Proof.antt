@@ -14,17 +14,11 @@ returns-2 c = simp (le-ltb _ _ (c .before .if1 .left), lt-ltb _ _ (c .if2 .taken
 sub-x : tie.Need-sub-x
 sub-x c = search needs
 
-mul-x : tie.Need-mul-x
-mul-x c = search needs
-
 add-x : tie.Need-add-x
 add-x c = search needs
 
-add-x-2 : tie.Need-add-x-2
-add-x-2 c = search needs
-
-mul-x-2 : tie.Need-mul-x-2
-mul-x-2 c = search needs
+mul-x : tie.Need-mul-x
+mul-x c = search needs
 
 element-copy-out-x : tie.Need-element-copy-out-x
 element-copy-out-x c = search needs
@@ -40,4 +34,4 @@ returns-4 c =
 pub bits-at-spec : {M : Type 1} → statement M
 bits-at-spec =
     tie.close
-    (tie.spec returns returns-2 sub-x mul-x add-x add-x-2 mul-x-2 element-copy-out-x returns-3 returns-4)
+    (tie.spec returns returns-2 sub-x add-x mul-x element-copy-out-x returns-3 returns-4)
