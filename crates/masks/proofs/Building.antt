@@ -104,11 +104,7 @@ module _ (P s : List ℕ) (n : ℕ) where
 
 -- ---- all of them
 
-pub built : (P s : List ℕ) (h n : ℕ) (r t z : List ℕ) → h ≡ hubsIn P → n ≡ planIn P .nodes → r ≡ clearMasks h s → t ≡ showNodes P n r
-    → z ≡ showHubs P h t → z ≡ buildMasks P s
+pub built : (P s r t z : List ℕ) → r ≡ clearMasks (hubsIn P) s → t ≡ showNodes P (planIn P .nodes) r → z ≡ showHubs P (hubsIn P) t
+    → z ≡ buildMasks P s
 unfolding buildMasks
-built P s h n r t z a b e f i =
-    i
-    ∙ ap (λ (x : ℕ). showHubs P x t) a
-    ∙ ap (showHubs P (hubsIn P))
-    (f ∙ ap (λ (x : ℕ). showNodes P x r) b ∙ ap (showNodes P (planIn P .nodes)) (e ∙ ap (λ (x : ℕ). clearMasks x s) a))
+built P s r t z e f i = i ∙ ap (showHubs P (hubsIn P)) (f ∙ ap (showNodes P (planIn P .nodes)) e)

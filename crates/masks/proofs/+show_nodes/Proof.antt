@@ -1,8 +1,15 @@
 -- `masks::show_nodes` meets its contract, and ends since n falls.
 use Prim.Native.Nat.{ℕ, _<_}
-use mathlib.Core.Path.{_∙_}
+use mathlib.Core.Path.{ap, _∙_}
+use mathlib.Core.Bool.{true}
 use mathlib.Core.Logic.{⊎-elim}
+use native.Mathlib.Omega.{arith}
+use lib.Dec.{leb}
+use lib.ListN.{getD}
 use borrow.Author.Needs.{needs}
+use Rattle.plan_tree.specs.Tables.{hubOfNode, portOfNode}
+use Rattle.cells.specs.Layout.{requestCell}
+use Rattle.cells.specs.Build.{showPort}
 use Rattle.masks.proofs.Building.{no-nodes, some-nodes, none-stands, request-shown}
 use borrow.Fn.Kinds.{In}
 use borrow.Fn.PlainCycle.{Measures, is, falls, and}
@@ -83,8 +90,10 @@ show-nodes-returns-2 t c =
     let a = e .before .args in
     some-nodes (a .p .now) (a .s .now) (a .n) (j .if2 .s) _ (e .if1 .left)
     (⊎-elim
-    (λ w. w .5 ∙ w .4 .ensures ∙ request-shown (a .p .now) (a .s .now) (a .n) (w .0 .taken))
-    (λ w. w .1 ∙ none-stands (a .p .now) (a .s .now) (a .n) (w .0 .left))
+    (λ w. w .5 ∙ w .4 .ensures
+    ∙ ap (λ (x : ℕ). showPort (leb x (getD (a .s .now) (requestCell (a .n)) 0)) (hubOfNode (a .p .now) (a .n)) (portOfNode (a .p .now) (a .n)) true (a .s .now)) (omega arith)
+    ∙ request-shown (a .p .now) (a .s .now) (a .n) (omega arith))
+    (λ w. w .1 ∙ none-stands (a .p .now) (a .s .now) (a .n) (omega arith))
     (j .if2 .came))
     (c .show-nodes .ensures)
 
