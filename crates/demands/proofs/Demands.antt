@@ -13,6 +13,7 @@ use Rattle.rules.specs.Demand.{Holds3}
 use Rattle.rules.specs.AnyMoment.{AnyMoment}
 use Rattle.rules.specs.Saving.{SavesOn}
 use Rattle.rules.specs.Travel.{Travels}
+use Rattle.rules.specs.Looks.{FewLooks}
 use Rattle.rules.specs.Promises.{NoTimeLost, Admits}
 use Rattle.rules.proofs.Core.Acceptance.{acceptable-taken, taken-acceptable}
 use Rattle.rules.proofs.Core.AlwaysSound.{Good, good}
@@ -74,6 +75,7 @@ module _ (P : List ℕ) (R : Ready P) (past : List Entry) (m : Made P past (made
         by-rules = same;
         few-moves = subst (Every (λ a. movesOf a ≤ 4 * (levels p - 1))) (sym same) (kept .few-moves);
         travels = subst (Travels p) (sym same) (kept .travels);
+        few-looks = subst (FewLooks p) (sym same) (kept .few-looks);
         demand-3 = subst (Holds3 p) (sym same) (kept .demand-3);
         any-moment = subst (AnyMoment p) (sym same) (kept .any-moment);
         hub = tied .hub;
