@@ -1,7 +1,8 @@
 -- "A hub sees of each port only which classes count there": the masks are
--- kept, and a change at a node mends them from its hub up to the root.
+-- kept, and a change at a node mends them from its hub up to the first
+-- hub that shows something as before, or nothing as before.
 use Prim.Native.Nat.{ℕ, zero, suc, _+_, _-_}
-use mathlib.Core.Bool.{Bool, true, false, _&&_}
+use mathlib.Core.Bool.{Bool, true, false, _&&_, Bool·beq}
 use mathlib.Core.List.{List}
 use lib.Dec.{ltb, leb}
 use lib.ListN.{getD, set}
@@ -26,15 +27,22 @@ countsAt isHigh k s = countsBy isHigh (getD s (requestCell k) 0) (getD s (grante
 abbrev pub maskWith : ℕ → ℕ → Bool → ℕ
 maskWith mask q b = maskOf (putPort (shows mask) q b)
 
+-- both masks show some port, or neither does: a hub's parent sees the same of it
+abbrev pub alike : ℕ → ℕ → Bool
+alike old mask = Bool·beq (anyPort (shows old)) (anyPort (shows mask))
+
 module _ (P : List ℕ) (isHigh : Bool) where
-  -- port q of hub g shows b: its bit is put, and so is the hub's own in its parent,
-  -- by whether the hub shows anything; up to the root, which has no parent
+  -- port q of hub g shows b: its bit is put. Where the hub shows something now and didn't before, or the other way
+  -- round, its own bit in its parent is put too; else the parent's is right already. Up to the root, which has no parent
   unfoldable pub mend : ℕ → ℕ → ℕ → Bool → List ℕ → List ℕ
   mend zero g q b s = s
   mend (suc levels) g q b s =
-      let mask = maskWith (getD s (maskCell isHigh g) 0) q b in
+      let old = getD s (maskCell isHigh g) 0 in
+      let mask = maskWith old q b in
+      let left = set s (maskCell isHigh g) mask in
       ifHub g
-      (mend levels (getD P (plan.parentCell g) 0) (getD P (plan.placeCell g) 0) (anyPort (shows mask)) (set s (maskCell isHigh g) mask))
+      (if alike old mask then left
+      else mend levels (getD P (plan.parentCell g) 0) (getD P (plan.placeCell g) 0) (anyPort (shows mask)) left)
       s
 
 -- both classes' bits of node k, by what its cells say

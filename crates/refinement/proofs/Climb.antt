@@ -1,7 +1,8 @@
--- One class's masks, mended from node k's hub up to the root: they were right but for k, and are right again.
+-- One class's masks, mended from node k's hub up: they were right but for k, and are right again. Where the climb
+-- ends early, a hub shows something as before or nothing as before, so all above it see what they saw.
 use Prim.Native.Nat.{ℕ, zero, suc, _+_, _≤_, _<_}
 use mathlib.Core.Path.{_≡_, refl, sym, ap, _∙_, subst}
-use mathlib.Core.Bool.{Bool, true, false, or-false}
+use mathlib.Core.Bool.{Bool, true, false, _&&_, Bool·beq, or-false}
 use mathlib.Core.List.{List}
 use mathlib.Core.Logic.{_⊎_, inl, inr, ⊎-elim}
 use native.Mathlib.Omega.{arith}
@@ -10,6 +11,7 @@ use lib.Dec.{ltb, leb, eqb}
 use lib.ListN.{length, getD, set, length-set}
 use lib.Seq.{getD-set-same, getD-set-other}
 use borrow.Author.Tests.{ltb-true, ltb-false, leb-true, leb-false, le-ltb, le-leb, eqb-true, eqb-false}
+use Rattle.rules.specs.Choice.{if_then_else_}
 use Rattle.rules.specs.Plan.{Plan, node, most-levels}
 use Rattle.rules.specs.Drawn.{Drawn, Within}
 use Rattle.rules.specs.Control as control
@@ -19,13 +21,13 @@ use Rattle.rules.proofs.Control.Nearest.{level-low}
 use Rattle.ports.specs.Ports.{ports, putPort, anyPort}
 use Rattle.ports.specs.Mask.{shows, maskOf}
 use Rattle.ports.proofs.Coding.{mask-cong, shows-mask}
-use Rattle.ports.proofs.Summaries.{any-mask}
+use Rattle.ports.proofs.Summaries.{any-cong, any-mask}
 use Rattle.plan_tree.specs.Tables as plan
 use Rattle.plan.specs.Tables.{planOf}
 use Rattle.plan_theory.specs.Taken.{Holds}
 use Rattle.cells.specs.Layout.{cells, maskCell}
 use Rattle.cells.specs.Decode.{planIn}
-use Rattle.cells.specs.Masks.{maskWith, mend}
+use Rattle.cells.specs.Masks.{maskWith, alike, mend}
 use Rattle.refinement.specs.Kept.{Ready, seenAt, MasksRight}
 use Rattle.refinement.proofs.Line.{Between, Up, here, over, up-within, up-above, At, lined, seen-beside, seen-elsewhere, seen-above, at-above}
 use Rattle.refinement.proofs.Mend.{mend-none}
@@ -41,6 +43,17 @@ put-port-same f q r b e = rw e (or-false b)
 put-port-other : (f : ℕ → Bool) (q r : ℕ) (b : Bool) → eqb r q ≡ false → putPort f q b r ≡ f r
 unfolding putPort
 put-port-other f q r b e = rw e
+
+both-same : (a b : Bool) → Bool·beq a b ≡ true → a ≡ b
+both-same true true e = refl
+both-same true false e = sym e
+both-same false true e = e
+both-same false false e = refl
+
+-- a choice whose first way is known to be taken where it is
+if-goes : {A : Type 0} (C : A → Type 0) (t : Bool) {a b : A} → (t ≡ true → C a) → C b → C (if t then a else b)
+if-goes C true x y = x refl
+if-goes C false x y = y
 
 -- the masks of class isHigh were right for what counted, `was`, and are to be for what counts now; only node k has changed
 module _ (P : List ℕ) (R : Ready P) (isHigh : Bool) (k : ℕ) (was now : ℕ → Bool) (same : (j : ℕ) → (j ≡ k → ⊥) → now j ≡ was j) where
@@ -75,6 +88,35 @@ module _ (P : List ℕ) (R : Ready P) (isHigh : Bool) (k : ℕ) (was now : ℕ �
       go r l u (no′ h) =
           put-port-other (shows (maskOf (seenAt p was g))) q r b h ∙ shows-mask ports (seenAt p was g) r l u
           ∙ seen-beside p D k was now same g q r w v a l (eqb-false r q h)
+
+  -- hub g sees at its ports what it saw
+  abbrev SeesSame : ℕ → Type 0
+  SeesSame g = (r : ℕ) → 1 ≤ r → r ≤ ports → seenAt p was g r ≡ seenAt p now g r
+
+  -- where hub g shows something as before, or nothing as before, its parent sees what it saw: k stands there at g's place
+  parent-same : (g q : ℕ) → 2 ≤ g → Within (p .hubs) g → Within (p .ports g) q → At p D k g q → anyPort (seenAt p was g) ≡ anyPort (seenAt p now g)
+      → SeesSame (p .parent g)
+  parent-same g q i w v a e r l u = go (which (eqb r (p .place g)))
+    where
+      own : seenAt p was (p .parent g) (p .place g) ≡ seenAt p now (p .parent g) (p .place g)
+      own =
+          ap (λ (b : Bool). leb (p .place g) (p .ports (p .parent g)) && b)
+          (sym (seen-above p D was g i (w .up)) ∙ e ∙ seen-above p D now g i (w .up))
+
+      go : Which (eqb r (p .place g)) → seenAt p was (p .parent g) r ≡ seenAt p now (p .parent g) r
+      go (yes′ h) = subst (λ (j : ℕ). seenAt p was (p .parent g) j ≡ seenAt p now (p .parent g) j) (sym (eqb-true r (p .place g) h)) own
+      go (no′ h) =
+          seen-beside p D k was now same (p .parent g) (p .place g) r (D .hung-parent g i (w .up)) (D .hung-place g i (w .up))
+          (at-above p D k g q i (w .up) v a) l (eqb-false r (p .place g) h)
+
+  -- and so do all above it
+  above-same : (g q : ℕ) → Within (p .hubs) g → Within (p .ports g) q → At p D k g q → SeesSame g
+      → (h : ℕ) → Up p h g → maskOf (seenAt p was h) ≡ maskOf (seenAt p now h)
+  above-same g q w v a sees h (here e) =
+      subst (λ (j : ℕ). maskOf (seenAt p was j) ≡ maskOf (seenAt p now j)) (sym e) (mask-cong ports (seenAt p was g) (seenAt p now g) sees)
+  above-same g q w v a sees h (over i u) =
+      above-same (p .parent g) (p .place g) (D .hung-parent g i (w .up)) (D .hung-place g i (w .up)) (at-above p D k g q i (w .up) v a)
+      (parent-same g q i w v a (any-cong ports (seenAt p was g) (seenAt p now g) sees)) h u
 
   -- with g's mask right too, only those above it are left
   module _ (g m : ℕ) (s : List ℕ) (w : Within (p .hubs) g) (c : Climbing g s) (right : m ≡ maskOf (seenAt p now g)) where
@@ -113,6 +155,18 @@ module _ (P : List ℕ) (R : Ready P) (isHigh : Bool) (k : ℕ) (was now : ℕ �
     at-root : g ≡ 1 → MasksRight p isHigh now stored
     at-root e h v = ⊎-elim (λ x. absurd (omega (arith, x .0))) (λ r. r) (stored-behind h v)
 
+    -- nor where g shows something as before, or nothing as before: those above it are right as they are
+    at-same : (q : ℕ) → Within (p .ports g) q → At p D k g q → anyPort (seenAt p was g) ≡ anyPort (seenAt p now g) → MasksRight p isHigh now stored
+    at-same q v a e h x = ⊎-elim (λ y. above (y .0) (y .1)) (λ r. r) (stored-behind h x)
+      where
+        above : 2 ≤ g → Up p h (p .parent g) → RightAt now h stored
+        above i u =
+            let far = up-above p D h g i (w .up) u in
+            stored-other now h (far .0) (λ e. omega (arith, far .1))
+            (c .ahead h (over i u)
+            ∙ above-same (p .parent g) (p .place g) (D .hung-parent g i (w .up)) (D .hung-place g i (w .up)) (at-above p D k g q i (w .up) v a)
+            (parent-same g q i w v a e) h u)
+
   -- with so many levels left, from hub g with k at its port q, the masks come right
   Mends : ℕ → Type 0
   Mends levels =
@@ -121,8 +175,11 @@ module _ (P : List ℕ) (R : Ready P) (isHigh : Bool) (k : ℕ) (was now : ℕ �
 
   module _ (levels g q : ℕ) (b : Bool) (s : List ℕ) (w : Within (p .hubs) g) (v : Within (p .ports g) q) (a : At p D k g q)
       (e : b ≡ control.shows p now g q) (c : Climbing g s) where
+    abbrev old : ℕ
+    old = getD s (maskCell isHigh g) 0
+
     abbrev mask : ℕ
-    mask = maskWith (getD s (maskCell isHigh g) 0) q b
+    mask = maskWith old q b
 
     -- what is left to do once g's mask is stored
     abbrev Rest : Type 0
@@ -130,6 +187,14 @@ module _ (P : List ℕ) (R : Ready P) (isHigh : Bool) (k : ℕ) (was now : ℕ �
 
     right : mask ≡ maskOf (seenAt p now g)
     right = mask-put g q b s w v a e (c .ahead g (here refl))
+
+    -- the climb ends here
+    ends : alike old mask ≡ true → MasksRight p isHigh now (set s (maskCell isHigh g) mask)
+    ends h =
+        at-same g mask s w c right q v a
+        (sym (any-mask (seenAt p was g)) ∙ ap (λ (n : ℕ). anyPort (shows n)) (sym (c .ahead g (here refl)))
+        ∙ both-same (anyPort (shows old)) (anyPort (shows mask)) h
+        ∙ ap (λ (n : ℕ). anyPort (shows n)) right ∙ any-mask (seenAt p now g))
 
     root-mends : g ≡ 1 → Rest
     unfolding planOf
@@ -152,7 +217,9 @@ module _ (P : List ℕ) (R : Ready P) (isHigh : Bool) (k : ℕ) (was now : ℕ �
   mends zero g q b s w v a e l c = absurd (omega (arith, level-low p D g w))
   mends (suc levels) g q b s w v a e l c =
       rw (le-ltb g 1 (w .low), le-ltb 32 g (omega (arith, w .up, D .few-hubs)))
-      (⊎-elim (λ i. root-mends levels g q b s w v a e c (sym i)) (λ i. lower-mends levels g q b s w v a e c i l (mends levels)) (eq-or-lt-of-le (w .low)))
+      (if-goes (MasksRight p isHigh now) (alike (getD s (maskCell isHigh g) 0) (maskWith (getD s (maskCell isHigh g) 0) q b))
+      (ends levels g q b s w v a e c)
+      (⊎-elim (λ i. root-mends levels g q b s w v a e c (sym i)) (λ i. lower-mends levels g q b s w v a e c i l (mends levels)) (eq-or-lt-of-le (w .low))))
 
   -- so from node k's own port
   module _ (s : List ℕ) (size : length s ≡ cells) (w : Within (p .nodes) k) (masks : MasksRight p isHigh was s) where

@@ -8,13 +8,14 @@ use lib.Dec.{ltb}
 use lib.ListN.{length, getD, set, length-set}
 use lib.Seq.{getD-set-other}
 use borrow.Author.Tests.{ltb-false}
+use Rattle.rules.specs.Choice.{if_then_else_}
 use Rattle.rules.specs.Drawn.{Within}
 use Rattle.rules.proofs.Laws.Passes.{Which, which, yes′, no′}
 use Rattle.ports.specs.Ports.{anyPort}
 use Rattle.ports.specs.Mask.{shows}
 use Rattle.plan_tree.specs.Tables as plan
 use Rattle.cells.specs.Layout.{maskCell, ifHub}
-use Rattle.cells.specs.Masks.{maskWith, mend}
+use Rattle.cells.specs.Masks.{maskWith, alike, mend}
 use Rattle.refinement.specs.Kept.{SameButMasks}
 
 module _ (P : List ℕ) (isHigh : Bool) where
@@ -27,17 +28,35 @@ module _ (P : List ℕ) (isHigh : Bool) where
       go (no′ e) (yes′ h) = rw (e, h) out
       go (no′ e) (no′ h) = rw (e, h) (in-table (record { low = ltb-false g 1 e; up = ltb-false 32 g h }))
 
+  -- and on whether the climb ends there
+  if-holds : {A : Type 0} (C : A → Type 0) (t : Bool) (a b : A) → C a → C b → C (if t then a else b)
+  if-holds C true a b x y = x
+  if-holds C false a b x y = y
+
+  -- one step: what holds of s, of the table with hub g's mask stored, and of what the climb leaves from there, holds of what `mend` leaves
+  module _ (levels g q : ℕ) (b : Bool) (s : List ℕ) where
+    abbrev old : ℕ
+    old = getD s (maskCell isHigh g) 0
+
+    abbrev mask : ℕ
+    mask = maskWith old q b
+
+    abbrev left : List ℕ
+    left = set s (maskCell isHigh g) mask
+
+    abbrev rest : List ℕ
+    rest = mend P isHigh levels (getD P (plan.parentCell g) 0) (getD P (plan.placeCell g) 0) (anyPort (shows mask)) left
+
+    step-holds : (C : List ℕ → Type 0) → (Within 32 g → C left) → (C left → C rest) → C s → C (mend P isHigh (suc levels) g q b s)
+    unfolding mend
+    step-holds C stored onward same =
+        ifHub-holds C g (if alike old mask then left else rest) s (λ w. if-holds C (alike old mask) left rest (stored w) (onward (stored w))) same
+
   pub mend-size : (levels g q : ℕ) (b : Bool) (s : List ℕ) → length (mend P isHigh levels g q b s) ≡ length s
   unfolding mend
   mend-size zero g q b s = refl
   mend-size (suc levels) g q b s =
-      let mask = maskWith (getD s (maskCell isHigh g) 0) q b in
-      ifHub-holds (λ r. length r ≡ length s) g
-      (mend P isHigh levels (getD P (plan.parentCell g) 0) (getD P (plan.placeCell g) 0) (anyPort (shows mask)) (set s (maskCell isHigh g) mask)) s
-      (λ w.
-      mend-size levels (getD P (plan.parentCell g) 0) (getD P (plan.placeCell g) 0) (anyPort (shows mask)) (set s (maskCell isHigh g) mask)
-      ∙ length-set s (maskCell isHigh g) mask)
-      refl
+      step-holds levels g q b s (λ r. length r ≡ length s) (λ w. length-set s (maskCell isHigh g) _) (λ e. mend-size levels _ _ _ _ ∙ e) refl
 
   -- every cell that is no mask's of the class
   pub mend-keeps : (i : ℕ) → ((g : ℕ) → Within 32 g → i ≡ maskCell isHigh g → ⊥) → (levels g q : ℕ) (b : Bool) (s : List ℕ)
@@ -45,13 +64,8 @@ module _ (P : List ℕ) (isHigh : Bool) where
   unfolding mend
   mend-keeps i other zero g q b s = refl
   mend-keeps i other (suc levels) g q b s =
-      let mask = maskWith (getD s (maskCell isHigh g) 0) q b in
-      ifHub-holds (λ r. getD r i 0 ≡ getD s i 0) g
-      (mend P isHigh levels (getD P (plan.parentCell g) 0) (getD P (plan.placeCell g) 0) (anyPort (shows mask)) (set s (maskCell isHigh g) mask)) s
-      (λ w.
-      mend-keeps i other levels (getD P (plan.parentCell g) 0) (getD P (plan.placeCell g) 0) (anyPort (shows mask)) (set s (maskCell isHigh g) mask)
-      ∙ getD-set-other s (maskCell isHigh g) i mask 0 (other g w))
-      refl
+      step-holds levels g q b s (λ r. getD r i 0 ≡ getD s i 0) (λ w. getD-set-other s (maskCell isHigh g) i _ 0 (other g w))
+      (λ e. mend-keeps i other levels _ _ _ _ ∙ e) refl
 
   pub mend-same : (levels g q : ℕ) (b : Bool) (s : List ℕ) → SameButMasks s (mend P isHigh levels g q b s)
   mend-same levels g q b s i n = mend-keeps i (n isHigh) levels g q b s

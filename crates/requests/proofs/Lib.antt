@@ -2,5 +2,4 @@
 pub mod Counting
 pub mod Pointing
 pub mod MendLaws
-pub mod BothLaws
 pub mod NodeLaws

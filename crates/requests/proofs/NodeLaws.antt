@@ -27,13 +27,15 @@ module _ (P : List ℕ) (k : ℕ) (s : List ℕ) where
   unfolding mendNode
   mend-past l = past-nodes k _ s l
 
-  pub mended : 1 ≤ k → k ≤ most-nodes → (n h : Bool) (s₁ : List ℕ)
+  -- s₁ is what the normal class's climb leaves, and s₂ the high one's
+  pub mended : 1 ≤ k → k ≤ most-nodes → (n h : Bool) (s₁ s₂ : List ℕ)
       → n ≡ countsBy false (getD s (requestCell k) 0) (getD s (grantedCell k) 0) (getD s (forceCell k) 0)
       → h ≡ countsBy true (getD s (requestCell k) 0) (getD s (grantedCell k) 0) (getD s (forceCell k) 0)
-      → s₁ ≡ mend P true most-levels (hubOfNode P k) (portOfNode P k) h (mend P false most-levels (hubOfNode P k) (portOfNode P k) n s)
-      → s₁ ≡ mendNode P k s
+      → s₁ ≡ mend P false most-levels (hubOfNode P k) (portOfNode P k) n s
+      → s₂ ≡ mend P true most-levels (hubOfNode P k) (portOfNode P k) h s₁
+      → s₂ ≡ mendNode P k s
   unfolding mendNode
-  mended l u n h s₁ e f i = i ∙ simp (le-ltb k 1 l, le-ltb most-nodes k u, e, f)
+  mended l u n h s₁ s₂ e f i j = j ∙ simp (le-ltb k 1 l, le-ltb most-nodes k u, i, e, f)
 
   module _ (x : ℕ) where
     pub request-below : k < 1 → s ≡ putRequest P k x s

@@ -1,4 +1,4 @@
-// Requests in the cascade's table, its times, and the masks that a change at a node mends from its hub up to the root.
+// Requests in the cascade's table, its times, and the masks that a change at a node mends from its hub up.
 // No public function has a `requires`: each says the whole table that it leaves, for every content, by a definition of `cells`.
 use cells::Cascade;
 use plan_tree::Plan;
@@ -7,7 +7,7 @@ ghost use mathlib.Core.Bool.{true, false};
 ghost use Prim.Native.Nat.{_+_, _*_, _≤_};
 ghost use Rattle.rules.specs.Plan.{most-hubs};
 ghost use Rattle.cells.specs.Layout.{two-32, timeAt, putTime, clock-cell, end-cell};
-ghost use Rattle.cells.specs.Masks.{countsBy, mend, mendNode, standingAfter, putRequest, grantedMore, grantNode};
+ghost use Rattle.cells.specs.Masks.{countsBy, alike, mend, mendNode, standingAfter, putRequest, grantedMore, grantNode};
 ghost use Rattle.cells.specs.Fresh.{pointed, freshCells};
 ghost use Rattle.cells.specs.Calls.{busyUntil};
 
@@ -61,10 +61,17 @@ fn counts(high: bool, x: u32, granted: u32, force: u32) -> bool
     x < cells::HIGH
 }
 
-// Port q of hub g shows in each class a request or none: its bits are put, and
-// so are the hub's own in its parent, up to the root, which has no parent.
-fn mend_both(p: &Plan, s: &mut Cascade, g: u32, q: u32, normal: bool, high: bool, levels: u32)
-    ensures { λ _. ⌜ now (s .exit) ≡ mend (now (p .entry)) true levels g q high (mend (now (p .entry)) false levels g q normal (now (s .entry))) ⌝ }
+// Both masks show some port, or neither does.
+fn alike(old: u32, mask: u32) -> bool
+    ensures { λ r. ⌜ r ≡ alike old mask ⌝ }
+{
+    ports::any_shown(old) == ports::any_shown(mask)
+}
+
+// Port q of hub g shows in a class a request or none: its bit is put. Only where
+// what the hub shows at all changes does its parent's mask change.
+fn mend(p: &Plan, s: &mut Cascade, high: bool, g: u32, q: u32, b: bool, levels: u32)
+    ensures { λ _. ⌜ now (s .exit) ≡ mend (now (p .entry)) high levels g q b (now (s .entry)) ⌝ }
 {
     if levels == 0 {
         return;
@@ -75,19 +82,21 @@ fn mend_both(p: &Plan, s: &mut Cascade, g: u32, q: u32, normal: bool, high: bool
     if cells::MOST_HUBS < g {
         return;
     }
-    let at = cells::HUBS + (g as usize - 1) * cells::PER_HUB;
-    let n = ports::put_port(s[at + cells::MASK], q, normal);
-    let h = ports::put_port(s[at + cells::HIGH_MASK], q, high);
-    s[at + cells::MASK] = n;
-    s[at + cells::HIGH_MASK] = h;
+    let at = cells::HUBS + (g as usize - 1) * cells::PER_HUB + high as usize;
+    let old = s[at];
+    let mask = ports::put_port(old, q, b);
+    s[at] = mask;
+    if alike(old, mask) {
+        return;
+    }
     let own = plan_tree::HUBS + (g as usize - 1) * plan_tree::PER_HUB;
-    mend_both(
+    mend(
         p,
         s,
+        high,
         p[own + plan_tree::PARENT],
         p[own + plan_tree::PLACE],
-        ports::any_shown(n),
-        ports::any_shown(h),
+        ports::any_shown(mask),
         levels - 1,
     );
 }
@@ -116,15 +125,10 @@ pub fn mend_node(p: &Plan, s: &mut Cascade, k: u32)
         s[at + cells::GRANTED],
         s[at + cells::FORCE],
     );
-    mend_both(
-        p,
-        s,
-        p[own + plan_tree::NODE_HUB],
-        p[own + plan_tree::NODE_PORT],
-        normal,
-        high,
-        5,
-    );
+    let g = p[own + plan_tree::NODE_HUB];
+    let q = p[own + plan_tree::NODE_PORT];
+    mend(p, s, false, g, q, normal, 5);
+    mend(p, s, true, g, q, high, 5);
 }
 
 // The number of standing requests where a request's cell changes.

@@ -92,36 +92,40 @@ element-copy-out-counts-6 c = search needs
 counts-requires-2 : tie.Need-counts-requires-2
 counts-requires-2 c κs = search needs
 
-add-mend-both : tie.Need-add-mend-both
-add-mend-both c = search needs
+add-g : tie.Need-add-g
+add-g c = search needs
 
-mul-mend-both : tie.Need-mul-mend-both
-mul-mend-both c = search needs
+mul-g : tie.Need-mul-g
+mul-g c = search needs
 
-element-copy-out-mend-both : tie.Need-element-copy-out-mend-both
-element-copy-out-mend-both c = search needs
+element-copy-out-g : tie.Need-element-copy-out-g
+element-copy-out-g c = search needs
 
-add-mend-both-2 : tie.Need-add-mend-both-2
-add-mend-both-2 c = search needs
+add-q : tie.Need-add-q
+add-q c = search needs
 
-mul-mend-both-2 : tie.Need-mul-mend-both-2
-mul-mend-both-2 c = search needs
+mul-q : tie.Need-mul-q
+mul-q c = search needs
 
-element-copy-out-mend-both-2 : tie.Need-element-copy-out-mend-both-2
-element-copy-out-mend-both-2 c = search needs
+element-copy-out-q : tie.Need-element-copy-out-q
+element-copy-out-q c = search needs
 
-mend-both-requires : tie.Need-mend-both-requires
-mend-both-requires c κs = search needs
+mend-requires : tie.Need-mend-requires
+mend-requires c κs = search needs
+
+mend-requires-2 : tie.Need-mend-requires-2
+mend-requires-2 c κs = search needs
 
 returns-3 : tie.Need-returns-3
 returns-3 c =
-    let high = c .before .before .before .before in
+    let first = c .before .before in
+    let high = first .before .before .before .before in
     let normal = high .before .before .before .before in
     let inside = normal .before .before .before .before in
     let a = inside .before .before .args in
     mended (a .p .now) (a .k) (a .s .now) (inside .before .if1 .left) (inside .if2 .left)
-    (normal .counts .result) (high .counts2 .result) (c .mend-both .last .1 .0)
-    (normal .counts .ensures) (high .counts2 .ensures) (c .mend-both .ensures)
+    (normal .counts .result) (high .counts2 .result) (first .mend .last .1 .0) (c .mend2 .last .1 .0)
+    (normal .counts .ensures) (high .counts2 .ensures) (first .mend .ensures) (c .mend2 .ensures)
 
 pub mend-node-spec : {M : Type 1} → statement M
 mend-node-spec =
@@ -155,11 +159,12 @@ mend-node-spec =
     mul-counts-6
     element-copy-out-counts-6
     counts-requires-2
-    add-mend-both
-    mul-mend-both
-    element-copy-out-mend-both
-    add-mend-both-2
-    mul-mend-both-2
-    element-copy-out-mend-both-2
-    mend-both-requires
+    add-g
+    mul-g
+    element-copy-out-g
+    add-q
+    mul-q
+    element-copy-out-q
+    mend-requires
+    mend-requires-2
     returns-3)
