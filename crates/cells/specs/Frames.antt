@@ -9,7 +9,7 @@ use Rattle.rules.specs.Plan.{Plan}
 use Rattle.rules.specs.Core.{reclassed, frameOf}
 use Rattle.cells.specs.Layout.{clock-cell, timeAt, putTime, requestCell, forceCell, latestCell, grantedCell, requestOf, requestCode, shareOf}
 use Rattle.cells.specs.Decode.{planIn}
-use Rattle.cells.specs.Masks.{mendNode}
+use Rattle.cells.specs.Build.{buildMasks}
 
 -- node k at a frame's start: its latest reservation comes into force, its request may turn normal, and its high grants count from 0
 unfoldable pub startCells : ℕ → List ℕ → List ℕ
@@ -17,14 +17,14 @@ startCells k s =
     let r = getD s (latestCell k) 0 in
     set (set (set s (requestCell k) (requestCode (reclassed (shareOf r) (requestOf (getD s (requestCell k) 0))))) (forceCell k) r) (grantedCell k) 0
 
--- only of a node whose request was high does this change what counts
-unfoldable pub startNode : List ℕ → ℕ → List ℕ → List ℕ
-startNode P k s = if ltb (getD s (requestCell k) 0) 131072 then startCells k s else mendNode P k (startCells k s)
-
 -- nodes n to 1
-unfoldable pub startNodes : List ℕ → ℕ → List ℕ → List ℕ
-startNodes P zero s = s
-startNodes P (suc n) s = startNodes P n (startNode P (suc n) s)
+unfoldable pub startNodes : ℕ → List ℕ → List ℕ
+startNodes zero s = s
+startNodes (suc n) s = startNodes n (startCells (suc n) s)
+
+-- each node's cells, and then the masks
+unfoldable pub startFrame : List ℕ → List ℕ → List ℕ
+startFrame P s = buildMasks P (startNodes (planIn P .nodes) s)
 
 -- whether the clock's frame ends before t
 abbrev pub newFrame : Plan → ℕ → List ℕ → Bool
@@ -32,4 +32,4 @@ newFrame p t s = ltb (frameOf p (timeAt s clock-cell)) (frameOf p t)
 
 -- the clock comes to t
 unfoldable pub advanceBy : List ℕ → ℕ → List ℕ → List ℕ
-advanceBy P t s = putTime clock-cell t (if newFrame (planIn P) t s then startNodes P (planIn P .nodes) s else s)
+advanceBy P t s = putTime clock-cell t (if newFrame (planIn P) t s then startFrame P s else s)

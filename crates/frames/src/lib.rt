@@ -12,19 +12,7 @@ ghost use Rattle.rules.specs.Core.{reclassed};
 ghost use Rattle.rules.specs.Rows.{load, loads};
 ghost use Rattle.cells.specs.Layout.{half, requestOf, requestCode, shareOf, latestCell};
 ghost use Rattle.cells.specs.Decode.{planIn, coreOf};
-ghost use Rattle.cells.specs.Frames.{startCells, startNode, startNodes, newFrame, advanceBy};
-
-// How many nodes the plan has; no more than the table has cells for.
-pub fn nodes(p: &Plan) -> u32
-    ensures { λ r. ⌜ r ≡ planIn (now (p .entry)) .nodes ⌝ }
-{
-    let n = p[plan::NODE_COUNT];
-    if n < cells::MOST_NODES {
-        n
-    } else {
-        cells::MOST_NODES
-    }
-}
+ghost use Rattle.cells.specs.Frames.{startCells, startNodes, startFrame, newFrame, advanceBy};
 
 // The frame that a time lies in. A plan that was taken has no frame of 0.
 pub fn frame_of(frame: u32, t: u64) -> u64
@@ -67,30 +55,24 @@ fn start_cells(s: &mut Cascade, k: u32)
     s[at + cells::GRANTED] = 0;
 }
 
-// Node k at a frame's start. Only a request that was high changes what counts.
-fn start_node(p: &Plan, s: &mut Cascade, k: u32)
-    requires { ⌜ (1 ≤ k) × (k ≤ most-nodes) ⌝ }
-    ensures { λ _. ⌜ now (s .exit) ≡ startNode (now (p .entry)) k (now (s .entry)) ⌝ }
-{
-    let at = cells::NODES + (k as usize - 1) * cells::PER_NODE;
-    let x = s[at + cells::REQUEST];
-    start_cells(s, k);
-    if x < cells::HIGH {
-        return;
-    }
-    requests::mend_node(p, s, k);
-}
-
-// Nodes n to 1.
-fn start_nodes(p: &Plan, s: &mut Cascade, n: u32)
+// Nodes n to 1. The call of itself is the last thing, so that the compiler makes a loop of it.
+fn start_nodes(s: &mut Cascade, n: u32)
     requires { ⌜ n ≤ most-nodes ⌝ }
-    ensures { λ _. ⌜ now (s .exit) ≡ startNodes (now (p .entry)) n (now (s .entry)) ⌝ }
+    ensures { λ _. ⌜ now (s .exit) ≡ startNodes n (now (s .entry)) ⌝ }
 {
     if n == 0 {
         return;
     }
-    start_node(p, s, n);
-    start_nodes(p, s, n - 1);
+    start_cells(s, n);
+    start_nodes(s, n - 1);
+}
+
+// Each node's cells, and then the masks.
+fn start_frame(p: &Plan, s: &mut Cascade)
+    ensures { λ _. ⌜ now (s .exit) ≡ startFrame (now (p .entry)) (now (s .entry)) ⌝ }
+{
+    start_nodes(s, masks::nodes(p));
+    masks::build(p, s);
 }
 
 // Whether the clock's frame ends before t.
@@ -105,7 +87,7 @@ pub fn advance(p: &Plan, s: &mut Cascade, t: u64)
     ensures { λ _. ⌜ now (s .exit) ≡ advanceBy (now (p .entry)) t (now (s .entry)) ⌝ }
 {
     if new_frame(p, s, t) {
-        start_nodes(p, s, nodes(p));
+        start_frame(p, s);
     }
     requests::put_clock(s, t);
 }
@@ -145,5 +127,5 @@ pub fn loads(p: &Plan, s: &Cascade) -> u64
     ensures { λ r. ⌜ r ≡ loads (planIn (now (p .entry))) (coreOf (planIn (now (p .entry))) (now (s .entry)) .latest) ⌝ }
     ensures { λ r. ⌜ r ≤ 288230376151711744 ⌝ }
 {
-    loads_onto(p, s, nodes(p), 0)
+    loads_onto(p, s, masks::nodes(p), 0)
 }

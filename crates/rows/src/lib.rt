@@ -47,7 +47,7 @@ pub fn no_node(p: &Plan, k: u64) -> bool
     if k == 0 {
         return true;
     }
-    (frames::nodes(p) as u64) < k
+    (masks::nodes(p) as u64) < k
 }
 
 // 11, 12, then 13.

@@ -1,9 +1,9 @@
--- `frames::nodes` meets its contract: the lesser of two.
+-- `masks::nodes` meets its contract: the lesser of two.
 use native.Mathlib.Omega.{arith}
 use borrow.Author.Needs.{needs}
 use Rattle.plan.specs.Tables.{planOf}
-use Rattle.frames.proofs.nodes.Statement.{statement}
-use Rattle.frames.proofs.nodes.Tie as tie
+use Rattle.masks.proofs.nodes.Statement.{statement}
+use Rattle.masks.proofs.nodes.Tie as tie
 
 element-copy-out-n : tie.Need-element-copy-out-n
 element-copy-out-n c = search needs
