@@ -19,3 +19,4 @@ pub mod Walked
 pub mod Rested
 pub mod Performed
 pub mod Runs
+pub mod Written
