@@ -25,6 +25,7 @@ use Rattle.refinement.specs.Kept.{Ready}
 use Rattle.refinement.specs.Written.{mostInFrame, mostAtStart, frameIn, FewWrites}
 use Rattle.refinement.proofs.Written.Counts.{request-few, grant-few, build-few}
 use Rattle.refinement.proofs.Written.Told.{Named, Tells}
+use Rattle.refinement.proofs.Written.Counted.{call-counted}
 
 module _ (P : List ℕ) (R : Ready P) (s : List ℕ) where
   abbrev p : Plan
@@ -114,6 +115,10 @@ module _ (P : List ℕ) (R : Ready P) (s : List ℕ) where
   pub few-writes : ((call : Call) → Tells p call (performBy P call s .answer) (timeAt (performBy P call s .cells) clock-cell)) → FewWrites P p s
   few-writes told =
       record {
-        within = λ call. call-few call (timeAt (performBy P call s .cells) clock-cell) (told call) .within;
-        over-start = λ call. call-few call (timeAt (performBy P call s .cells) clock-cell) (told call) .over-start;
+        within = λ call e. omega (arith, each call .within e);
+        over-start = λ call. omega (arith, each call .over-start);
+        counted = λ call. call-counted P call s .few;
       }
+    where
+      each : (call : Call) → Few (callWrites P call s) (timeAt (performBy P call s .cells) clock-cell)
+      each call = call-few call (timeAt (performBy P call s .cells) clock-cell) (told call)
