@@ -10,6 +10,7 @@ pub mod Standing
 pub mod Requested
 pub mod Granted
 pub mod Headed
+pub mod Built
 pub mod Started
 pub mod Bounds
 pub mod Reserved

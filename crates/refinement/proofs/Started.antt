@@ -1,7 +1,7 @@
--- The start of a frame over the cells, node by node, is the frame start of `rules`; and so the clock's coming to t.
+-- The start of a frame over the cells, the nodes' first and then the masks, is the frame start of `rules`; and so the clock's coming to t.
 use Prim.Native.Nat.{ℕ, zero, suc, _+_, _%_, _≤_, _<_}
 use mathlib.Core.Path.{_≡_, refl, sym, ap, subst, _∙_}
-use mathlib.Core.Bool.{Bool, true, false, _||_, and-false}
+use mathlib.Core.Bool.{Bool, true, false, _&&_, _||_, and-false}
 use mathlib.Core.List.{List}
 use native.Mathlib.Omega.{arith}
 use borrow.Author.Tests.{ltb-true, ltb-false, lt-ltb, le-ltb, le-leb, lt-leb, leb-true, leb-false, eqb-true, eqb-false}
@@ -9,18 +9,23 @@ use lib.Dec.{eqb, ltb, leb}
 use lib.ListN.{length, getD, set, length-set}
 use lib.Seq.{getD-set-same, getD-set-other}
 use Rattle.rules.specs.Choice.{if_then_else_, put}
+use Rattle.rules.specs.Plan.{Plan}
 use Rattle.rules.specs.Drawn.{Within}
 use Rattle.rules.specs.Call.{normal, high}
-use Rattle.rules.specs.Core.{Core, Request, none, standing, Share, nothing-reserved, isClass, reclassed, frameStart, advance}
-use Rattle.rules.proofs.Laws.Passes.{Which, which, yes′, no′, put-same, put-other, sum-same}
+use Rattle.rules.specs.Core.{Core, Request, none, standing, Share, nothing-reserved, isClass, reclassed, countsIn, frameStart, advance}
+use Rattle.rules.specs.Control.{Control}
+use Rattle.rules.proofs.Laws.Passes.{Which, which, yes′, no′, or-none, put-same, put-other, sum-same}
 use Rattle.ports.specs.Mask.{digit}
-use Rattle.cells.specs.Layout.{standing-cell, requestCell, forceCell, latestCell, grantedCell, requestOf, requestCode, shareOf}
+use Rattle.cells.specs.Layout.{cells, standing-cell, requestCell, forceCell, latestCell, grantedCell, classOf, requestOf, requestCode, shareOf}
 use Rattle.cells.specs.Decode.{planIn, isNode, coreOf, controlOf}
-use Rattle.cells.specs.Masks.{stands, countsBy, countsAt}
-use Rattle.cells.specs.Frames.{startCells, startNode, startNodes, newFrame, advanceBy}
-use Rattle.refinement.specs.Kept.{Ready, countsOf, MasksRight, Kept, standingIn}
-use Rattle.refinement.proofs.Changed.{Change, KeptBut, kept-but, kept-right, right-but, others-count, counts-cells, mask-cell, other-cell}
-use Rattle.refinement.proofs.Requested.{Left, own-field, agree, core-path, change-but, change-control, change-core, mended-left}
+use Rattle.cells.specs.Masks.{stands}
+use Rattle.cells.specs.Build.{buildMasks}
+use Rattle.cells.specs.Frames.{startCells, startNodes, startFrame, newFrame, advanceBy}
+use Rattle.refinement.specs.Kept.{Ready, countsOf, Kept, standingIn}
+use Rattle.refinement.proofs.Same.{core-same, control-same}
+use Rattle.refinement.proofs.Changed.{Change, KeptBut, kept-but, mended-kept, other-cell}
+use Rattle.refinement.proofs.Requested.{Left, own-field, core-path, change-but, change-control, change-core}
+use Rattle.refinement.proofs.Built.{shownIn, AllCount, built}
 use Rattle.refinement.proofs.Headed.{headed, clock-left}
 
 -- ---- a request's cell at a frame's start
@@ -58,6 +63,30 @@ reclassed-cell r x = go (which (ltb x 65536)) (which (ltb x 131072)) (which (eqb
     go (no′ a) (no′ b) (no′ c) =
         record { read = rw (a, b, c) (codes .1); stood = rw (a, b, c) (stand (131072 + x % 65536) (omega arith) (ltb-false x 65536 a)) }
 
+-- a request's cell shows in the class in which it stands
+class-shown : (isHigh : Bool) (x : ℕ) → isClass (classOf isHigh) (requestOf x) ≡ shownIn isHigh x
+class-shown isHigh x = go isHigh (which (ltb x 65536)) (which (ltb x 131072))
+  where
+    go : (isHigh : Bool) → Which (ltb x 65536) → Which (ltb x 131072) → isClass (classOf isHigh) (requestOf x) ≡ shownIn isHigh x
+    go true (yes′ a) b = rw a
+    go false (yes′ a) b = rw a
+    go true (no′ a) (yes′ b) = rw (a, b, lt-leb 131072 x (ltb-true x 131072 b))
+    go false (no′ a) (yes′ b) = rw (a, b, lt-leb 131072 x (ltb-true x 131072 b))
+    go true (no′ a) (no′ b) = rw (a, b, le-leb 131072 x (ltb-false x 131072 b))
+    go false (no′ a) (no′ b) = rw (a, b, le-leb 131072 x (ltb-false x 131072 b))
+
+-- a request that is high behind a frame's start has a packet left: n is at least 1, and no high grant is counted
+share-left : (r : Share) (x : Request) → (isClass high (reclassed r x) && ltb 0 (r .packets)) ≡ isClass high (reclassed r x)
+share-left r none = refl
+share-left r (standing normal b) = refl
+share-left r (standing high b) = go (which (eqb (r .packets) 0 || ltb (r .bits) b))
+  where
+    go : Which (eqb (r .packets) 0 || ltb (r .bits) b)
+        → (isClass high (reclassed r (standing high b)) && ltb 0 (r .packets)) ≡ isClass high (reclassed r (standing high b))
+    go (yes′ e) = rw e
+    go (no′ e) =
+        rw e (lt-ltb 0 (r .packets) (omega (arith, eqb-false (r .packets) 0 (or-none (eqb (r .packets) 0) (ltb (r .bits) b) e .0))))
+
 -- ---- one node at a frame's start
 
 -- the core with node k started
@@ -72,7 +101,18 @@ startedAt k s =
       granted = put (s .granted) k 0;
     }
 
-module _ (P : List ℕ) (R : Ready P) (s : List ℕ) (K : Kept (planIn P) s) (k : ℕ) (w : Within (planIn P .nodes) k) where
+-- what is kept of cells whose masks are to be built anew
+pub record Bare (p : Plan) (s : List ℕ) : Type 0 where
+  pub size : length s ≡ cells
+  pub but : KeptBut p s
+
+-- such cells, with this core and this control
+record LeftBare (p : Plan) (r : List ℕ) (c : Core) (σ : Control) : Type 0 where
+  bare : Bare p r
+  core : coreOf p r ≡ c
+  control : controlOf p r ≡ σ
+
+module _ (P : List ℕ) (R : Ready P) (s : List ℕ) (K : Bare (planIn P) s) (k : ℕ) (w : Within (planIn P .nodes) k) where
   share : ℕ
   share = getD s (latestCell k) 0
 
@@ -143,7 +183,7 @@ module _ (P : List ℕ) (R : Ready P) (s : List ℕ) (K : Kept (planIn P) s) (k 
   start-standing : getD (startCells k s) standing-cell 0 ≡ standingIn (planIn P .nodes) (startCells k s)
   unfolding share old new startCells
   start-standing =
-      low ∙ K .standing ∙ sym (sum-same (planIn P .nodes) _ _ (λ j v. go j (v .low) (which (eqb j k))))
+      low ∙ K .but .standing ∙ sym (sum-same (planIn P .nodes) _ _ (λ j v. go j (v .low) (which (eqb j k))))
     where
       low : getD (startCells k s) standing-cell 0 ≡ getD s standing-cell 0
       low =
@@ -160,66 +200,15 @@ module _ (P : List ℕ) (R : Ready P) (s : List ℕ) (K : Kept (planIn P) s) (k 
           ap (λ (x : ℕ). digit (stands x)) (other-cell (planIn P) k (w .low) s (startCells k s) start-change j 0 l (eqb-false j k e) (omega arith))
 
   start-but : KeptBut (planIn P) (startCells k s)
-  start-but = change-but (planIn P) (R .drawn .few-hubs) k (w .low) s (startCells k s) start-change (kept-but (planIn P) s K) start-standing
+  start-but = change-but (planIn P) (R .drawn .few-hubs) k (w .low) s (startCells k s) start-change (K .but) start-standing
 
-  -- a request that was not high counts as it did
-  start-counts : ltb old 131072 ≡ true → (isHigh : Bool) → countsAt isHigh k (startCells k s) ≡ countsAt isHigh k s
-  unfolding old share new
-  start-counts e isHigh = rw (start-request, start-granted, start-force) (go isHigh (which (ltb old 65536)))
-    where
-      lower : (isHigh : Bool) (x : Request) → requestOf new ≡ x → requestOf old ≡ x → isClass high x ≡ false
-          → countsBy isHigh new 0 share ≡ countsBy isHigh old (getD s (grantedCell k) 0) (getD s (forceCell k) 0)
-      lower true x a b c = rw (a, b, c)
-      lower false x a b c = rw (a, b)
-
-      go : (isHigh : Bool) → Which (ltb old 65536)
-          → countsBy isHigh new 0 share ≡ countsBy isHigh old (getD s (grantedCell k) 0) (getD s (forceCell k) 0)
-      go isHigh (yes′ a) = lower isHigh none (reclassed-cell share old .read ∙ rw a) (rw a) refl
-      go isHigh (no′ a) = lower isHigh (standing normal (old % 65536)) (reclassed-cell share old .read ∙ rw (a, e)) (rw (a, e)) refl
-
-  -- so its masks stay right
-  start-masks : ltb old 131072 ≡ true → (isHigh : Bool) → MasksRight (planIn P) isHigh (countsOf (planIn P) isHigh (startCells k s)) (startCells k s)
-  start-masks e isHigh =
-      subst (λ (f : ℕ → Bool). MasksRight (planIn P) isHigh f (startCells k s)) (sym same)
-      (λ g v. mask-cell (planIn P) k (w .low) s (startCells k s) start-change isHigh g (omega (arith, v .up, R .drawn .few-hubs)) ∙ K .masks isHigh g v)
-    where
-      own : countsOf (planIn P) isHigh (startCells k s) k ≡ countsOf (planIn P) isHigh s k
-      own =
-          counts-cells (planIn P) isHigh (startCells k s) k
-          ∙ ap (λ (b : Bool). if isNode (planIn P) k then b else false) (start-counts e isHigh)
-          ∙ sym (counts-cells (planIn P) isHigh s k)
-
-      same : countsOf (planIn P) isHigh (startCells k s) ≡ countsOf (planIn P) isHigh s
-      same i j = agree k own (others-count (planIn P) k (w .low) s (startCells k s) start-change isHigh) j i
-
-  pub node-left : Left (planIn P) (startNode P k s) (startedAt k (coreOf (planIn P) s)) (controlOf (planIn P) s)
-  unfolding startNode old
-  node-left = go (which (ltb old 131072))
-    where
-      control : controlOf (planIn P) (startCells k s) ≡ controlOf (planIn P) s
-      control = change-control (planIn P) (R .drawn .few-hubs) k (w .low) s (startCells k s) start-change
-
-      go : Which (ltb old 131072) → Left (planIn P) (startNode P k s) (startedAt k (coreOf (planIn P) s)) (controlOf (planIn P) s)
-      go (yes′ e) =
-          rw e
-          (record {
-            kept =
-                record {
-                  size = start-change .size;
-                  masks = start-masks e;
-                  standing = start-but .standing;
-                  holder = start-but .holder;
-                  class = start-but .class;
-                  pointers = start-but .pointers;
-                };
-            core = start-core;
-            control = control;
-          })
-      go (no′ e) =
-          rw e
-          (mended-left P R (startCells k s) (start-change .size) k w
-          (λ isHigh. right-but (planIn P) k (w .low) s (startCells k s) start-change (R .drawn .few-hubs) isHigh (kept-right (planIn P) k s K isHigh))
-          start-but start-core control)
+  node-left : LeftBare (planIn P) (startCells k s) (startedAt k (coreOf (planIn P) s)) (controlOf (planIn P) s)
+  node-left =
+      record {
+        bare = record { size = start-change .size; but = start-but };
+        core = start-core;
+        control = change-control (planIn P) (R .drawn .few-hubs) k (w .low) s (startCells k s) start-change;
+      }
 
 -- ---- all nodes, n to 1
 
@@ -306,17 +295,45 @@ module _ (P : List ℕ) (R : Ready P) where
       granted j (yes′ e) = rw e
       granted j (no′ e) = rw (above j e, e)
 
-  pub nodes-left : (n : ℕ) → n ≤ planIn P .nodes → (s : List ℕ) → Kept (planIn P) s
-      → Left (planIn P) (startNodes P n s) (startedTo n (coreOf (planIn P) s)) (controlOf (planIn P) s)
+  nodes-left : (n : ℕ) → n ≤ planIn P .nodes → (s : List ℕ) → Bare (planIn P) s
+      → LeftBare (planIn P) (startNodes n s) (startedTo n (coreOf (planIn P) s)) (controlOf (planIn P) s)
   unfolding startNodes
-  nodes-left zero u s K = record { kept = K; core = sym (started-none s); control = refl }
+  nodes-left zero u s K = record { bare = K; core = sym (started-none s); control = refl }
   nodes-left (suc n) u s K =
       let one = node-left P R s K (suc n) (record { low = omega arith; up = u }) in
-      let rest = nodes-left n (omega arith) (startNode P (suc n) s) (one .kept) in
+      let rest = nodes-left n (omega arith) (startCells (suc n) s) (one .bare) in
       record {
-        kept = rest .kept;
+        bare = rest .bare;
         core = rest .core ∙ ap (startedTo n) (one .core) ∙ started-more n (coreOf (planIn P) s);
         control = rest .control ∙ one .control;
+      }
+
+  -- then every standing request counts, so the masks can be built
+  all-count : (c : Core) (r : List ℕ) → coreOf (planIn P) r ≡ startedTo (planIn P .nodes) c → AllCount P r
+  unfolding coreOf countsIn
+  all-count c r e isHigh k w =
+      started-counts isHigh ∙ ap (isClass (classOf isHigh)) (own-field (planIn P) k w requestOf none (getD r (requestCell k) 0))
+      ∙ class-shown isHigh (getD r (requestCell k) 0)
+    where
+      started : (isHigh : Bool) → countsIn (classOf isHigh) (startedTo (planIn P .nodes) c) k ≡ isClass (classOf isHigh) (startedTo (planIn P .nodes) c .request k)
+      started true = rw (le-leb k (planIn P .nodes) (w .up)) (share-left (c .latest k) (c .request k))
+      started false = refl
+
+      started-counts : (isHigh : Bool) → countsOf (planIn P) isHigh r k ≡ isClass (classOf isHigh) (coreOf (planIn P) r .request k)
+      started-counts isHigh =
+          ap (λ (x : Core). countsIn (classOf isHigh) x k) e ∙ started isHigh ∙ sym (ap (λ (x : Core). isClass (classOf isHigh) (x .request k)) e)
+
+  frame-left : (s : List ℕ) → Kept (planIn P) s
+      → Left (planIn P) (startFrame P s) (startedTo (planIn P .nodes) (coreOf (planIn P) s)) (controlOf (planIn P) s)
+  unfolding startFrame
+  frame-left s K =
+      let l = nodes-left (planIn P .nodes) (omega arith) s (record { size = K .size; but = kept-but (planIn P) s K }) in
+      let r = startNodes (planIn P .nodes) s in
+      let m = built P R r (l .bare .size) (all-count (coreOf (planIn P) s) r (l .core)) in
+      record {
+        kept = mended-kept (planIn P) (R .drawn .few-hubs) r (buildMasks P r) (l .bare .but) m;
+        core = core-same (planIn P) r (buildMasks P r) (m .same) ∙ l .core;
+        control = control-same (planIn P) (R .drawn .few-hubs) r (buildMasks P r) (m .same) ∙ l .control;
       }
 
   -- the clock comes to t
@@ -328,8 +345,8 @@ module _ (P : List ℕ) (R : Ready P) where
       go : Which (newFrame (planIn P) t s)
           → Left (planIn P) (advanceBy P t s) (advance (planIn P) t (coreOf (planIn P) s)) (controlOf (planIn P) s)
       go (yes′ e) =
-          let l = nodes-left (planIn P .nodes) (omega arith) s K in
-          let r = startNodes P (planIn P .nodes) s in
+          let l = frame-left s K in
+          let r = startFrame P s in
           let m = clock-left (planIn P) r (l .kept) t in
           rw e
           (record {
