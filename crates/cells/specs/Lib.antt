@@ -9,3 +9,4 @@ pub mod Turns
 pub mod Fresh
 pub mod Calls
 pub mod Run
+pub mod Written

@@ -13,6 +13,7 @@ use Rattle.rules.specs.Demand.{Holds3}
 use Rattle.rules.specs.AnyMoment.{AnyMoment}
 use Rattle.rules.specs.Saving.{SavesOn}
 use Rattle.rules.specs.Travel.{Travels}
+use Rattle.rules.specs.Looks.{FewLooks}
 use Rattle.rules.specs.Promises.{NoTimeLost, Admits}
 use Rattle.rules.proofs.Core.Acceptance.{acceptable-taken, taken-acceptable}
 use Rattle.rules.proofs.Core.AlwaysSound.{Good, good}
@@ -30,6 +31,8 @@ use Rattle.refinement.specs.Kept.{Ready}
 use Rattle.refinement.proofs.ReadyPlan.{ready, plan-in}
 use Rattle.refinement.proofs.Performed.{Agrees, performed}
 use Rattle.refinement.proofs.Runs.{RunTied, run-tied}
+use Rattle.refinement.proofs.Written.Told.{Tells, tells}
+use Rattle.refinement.proofs.Written.Calls.{few-writes}
 use Rattle.demands.specs.Demands.{Calls, callsOf, Demands}
 use Rattle.demands.proofs.Unchanged.{refusal-unchanged, quiet-unchanged}
 use Rattle.demands.proofs.Sequence.{Made, sequence}
@@ -57,15 +60,20 @@ module _ (P : List ℕ) (R : Ready P) (past : List Entry) (m : Made P past (made
   same : past ≡ made p (control p) calls .past
   same = m .past-is ∙ tied .past
 
+  fine : Good p (R .drawn .figures) (control p) (control-follows p (R .drawn)) (hubOf p s)
+  fine =
+      subst (Good p (R .drawn .figures) (control p) (control-follows p (R .drawn))) (sym (tied .hub))
+      (good p (R .drawn .figures) (control p) (control-follows p (R .drawn)) (R .drawn .some-node) calls)
+
   agrees : (call : Call) → Agrees p (performBy P call s) (perform p (control p) call (hubOf p s))
-  agrees call =
-      performed P R s (tied .kept)
-      (subst (Good (planIn P) (R .drawn .figures) (control (planIn P)) (control-follows (planIn P) (R .drawn))) (sym (tied .hub))
-      (good (planIn P) (R .drawn .figures) (control (planIn P)) (control-follows (planIn P) (R .drawn)) (R .drawn .some-node) calls))
-      call
+  agrees call = performed P R s (tied .kept) fine call
 
   leaves : (call : Call) → hubOf p (performBy P call s .cells) ≡ perform p (control p) call (hubOf p s) .hub
   leaves call = ap₂ (λ (c : Core) (σ : Control). record { core = c; turn = σ }) (agrees call .left .core) (agrees call .left .control)
+
+  -- where the clock is left
+  left-clock : (call : Call) → perform p (control p) call (hubOf p s) .hub .core .clock ≡ timeAt (performBy P call s .cells) clock-cell
+  left-clock call = ap (λ (h : Hub Control). h .core .clock) (sym (leaves call)) ∙ clock-cells p (performBy P call s .cells)
 
   meets : Demands P p past s
   meets =
@@ -74,6 +82,10 @@ module _ (P : List ℕ) (R : Ready P) (past : List Entry) (m : Made P past (made
         by-rules = same;
         few-moves = subst (Every (λ a. movesOf a ≤ 4 * (levels p - 1))) (sym same) (kept .few-moves);
         travels = subst (Travels p) (sym same) (kept .travels);
+        few-looks = subst (FewLooks p) (sym same) (kept .few-looks);
+        few-writes = few-writes P R s (λ call.
+            subst₂ (Tells p call) (sym (agrees call .answer)) (left-clock call)
+            (tells p (R .drawn .figures) (control p) (control-follows p (R .drawn)) (hubOf p s) fine call));
         demand-3 = subst (Holds3 p) (sym same) (kept .demand-3);
         any-moment = subst (AnyMoment p) (sym same) (kept .any-moment);
         hub = tied .hub;
@@ -92,7 +104,7 @@ module _ (P : List ℕ) (R : Ready P) (past : List Entry) (m : Made P past (made
     where
       grows : (call : Call) → timeAt s clock-cell ≤ timeAt (performBy P call s .cells) clock-cell
       grows call =
-          subst₂ _≤_ (clock-cells p s) (ap (λ (h : Hub Control). h .core .clock) (sym (leaves call)) ∙ clock-cells p (performBy P call s .cells))
+          subst₂ _≤_ (clock-cells p s) (left-clock call)
           (subst (λ (h : Hub Control). h .core .clock ≤ perform p (control p) call h .hub .core .clock) (sym (tied .hub)) (kept .clock-grows call))
 
 pub demands : (text : List ℕ) (nodes hubs at line : ℕ) → TakenAs text nodes hubs at line → (past : List Entry) (z : List ℕ)

@@ -11,6 +11,7 @@ use Rattle.rules.proofs.Control.FollowsFlat.{control-follows}
 use Rattle.rules.proofs.Control.EveryList.{control-turns-agree, as-from-root, control-moves}
 use Rattle.rules.proofs.Control.Saving.{control-saves}
 use Rattle.rules.proofs.Travel.EveryRun.{control-travels}
+use Rattle.rules.proofs.Looks.Calls.{control-looks}
 use Rattle.rules.proofs.Demand3.OfControl.{control-demand3}
 use Rattle.rules.proofs.AnyMoment.Theorem.{control-any-moment}
 use Rattle.rules.proofs.Promised.NoTimeLost.{no-time-lost}
@@ -38,6 +39,7 @@ module _ (p : Plan) (drawn : Drawn p) (calls : List Call) where
         as-from-root = as-from-root p drawn calls;
         saves = control-saves p drawn calls;
         travels = control-travels p drawn calls;
+        few-looks = control-looks p drawn calls;
         demand-3 = control-demand3 p drawn calls;
         any-moment = control-any-moment p drawn calls;
         no-time-lost = no-time-lost p (drawn .figures) (control p) (control-follows p drawn) (drawn .some-node) calls;

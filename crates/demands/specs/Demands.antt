@@ -28,6 +28,7 @@ use Rattle.rules.specs.Run.{Entry, made}
 use Rattle.rules.specs.Agree.{plain, movesOf, Every}
 use Rattle.rules.specs.Saving.{SavesOn}
 use Rattle.rules.specs.Travel.{Travels}
+use Rattle.rules.specs.Looks.{FewLooks}
 use Rattle.rules.specs.Demand.{Holds3}
 use Rattle.rules.specs.AnyMoment.{AnyMoment}
 use Rattle.rules.specs.Promises.{NoTimeLost, Admits, Acceptable}
@@ -40,6 +41,7 @@ use Rattle.cells.specs.Layout.{timeAt, clock-cell}
 use Rattle.cells.specs.Decode.{hubOf, coreOf}
 use Rattle.cells.specs.Fresh.{freshCells}
 use Rattle.cells.specs.Calls.{isEvent, EventPromise, StepPromise, eventAnswer, stepAnswer, performBy}
+use Rattle.refinement.specs.Written.{FewWrites}
 
 -- Demand 2, of plans
 pub record PlanDemands (text : List ℕ) : Type 0 where
@@ -89,6 +91,10 @@ module _ (P : List ℕ) (p : Plan) (past : List Entry) (s : List ℕ) where
     -- the root's pointer, which the answers tell, at most 2 × (H - 1) × (w + 1)
     -- moves after the first
     pub travels : Travels p past
+    -- The worst case: at most 4 × L - 1 looks at a hub in each call, and 3 × L - 1 where the class is that of the latest grant
+    pub few-looks : FewLooks p past
+    -- and in each further call at most 2 × L mask cells written within a frame, and 4 × H + N - 2 more where a frame starts
+    pub few-writes : FewWrites P p s
     -- Demand 3, one claim over the whole list
     pub demand-3 : Holds3 p past
     -- Request 5 of document 02: a high request of a node with packets left in its frame, put up at any t and kept standing, is

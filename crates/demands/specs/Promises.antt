@@ -11,6 +11,7 @@ use Rattle.rules.specs.Run.{Made, made}
 use Rattle.rules.specs.Agree.{plain, movesOf, Every}
 use Rattle.rules.specs.Saving.{SavesOn}
 use Rattle.rules.specs.Travel.{Travels}
+use Rattle.rules.specs.Looks.{FewLooks}
 use Rattle.rules.specs.Demand.{Holds3}
 use Rattle.rules.specs.AnyMoment.{AnyMoment}
 use Rattle.rules.specs.Promises.{NoTimeLost, Admits, Acceptable}
@@ -41,6 +42,8 @@ module _ (p : Plan) (calls : List Call) where
     -- the root's pointer, which the answers tell, at most 2 × (H - 1) × (w + 1)
     -- moves after the first
     pub travels : Travels p (cascade .past)
+    -- The worst case: at most 4 × L - 1 looks at a hub in each call, and 3 × L - 1 where the class is that of the latest grant
+    pub few-looks : FewLooks p (cascade .past)
     -- Demand 3
     pub demand-3 : Holds3 p (cascade .past)
     -- Request 5 of document 02: a high request of a node with packets left in its frame, put up at any t and kept standing, is

@@ -20,3 +20,4 @@ pub mod Walked
 pub mod Rested
 pub mod Performed
 pub mod Runs
+pub mod Written

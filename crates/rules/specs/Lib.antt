@@ -12,6 +12,7 @@ pub mod Run
 pub mod Agree
 pub mod Saving
 pub mod Travel
+pub mod Looks
 pub mod Words
 pub mod Demand
 pub mod AnyMoment
@@ -21,4 +22,5 @@ pub mod Slips
 pub mod TurningSlips
 pub mod Rejected
 pub mod TravelRuns
+pub mod LooksRuns
 pub mod AnyMomentRuns

@@ -98,7 +98,7 @@ module _ (p : Plan) where
   calls-of [] = refl
   calls-of (call ∷ calls) = ap (λ (l : List Call). call ∷ l) (calls-of calls)
 
-  left-by : (calls : List Call) (past : List Entry) → made p (control p) calls .past ≡ past → leftBy p past ≡ made p (control p) calls .hub
+  pub left-by : (calls : List Call) (past : List Entry) → made p (control p) calls .past ≡ past → leftBy p past ≡ made p (control p) calls .hub
   left-by calls past e =
       ap (leftBy p) (sym e) ∙ ap (λ (l : List Call). made p (control p) l .hub) (calls-of calls)
 

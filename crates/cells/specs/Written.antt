@@ -1,0 +1,140 @@
+-- The worst case of a call: how many mask cells it writes, by the levels of the plan; at a frame's start by its
+-- nodes and hubs. The counts stand beside the definitions of Masks, Build, Frames and Calls, case by case.
+use Prim.Native.Nat.{ℕ, zero, suc, _+_}
+use mathlib.Core.Bool.{Bool, true, false}
+use mathlib.Core.List.{List}
+use lib.Dec.{ltb, eqb}
+use lib.ListN.{getD, set}
+use Rattle.rules.specs.Choice.{if_then_else_}
+use Rattle.rules.specs.Plan.{most-levels}
+use Rattle.rules.specs.Call.{Call, ask, off, reserve, until, step, time}
+use Rattle.rules.specs.Core.{standing}
+use Rattle.ports.specs.Ports.{anyPort}
+use Rattle.ports.specs.Mask.{shows}
+use Rattle.plan_tree.specs.Tables as plan
+use Rattle.cells.specs.declared.Due.{Due}
+use Rattle.cells.specs.declared.Due.the-variants.{At, Never}
+use Rattle.cells.specs.declared.Sought.{Sought}
+use Rattle.cells.specs.declared.Sought.the-variants as seek
+use Rattle.cells.specs.Layout.{standing-cell, maskCell, requestCell, grantedCell, ifHub, ifNode, requestCode}
+use Rattle.cells.specs.Decode.{planIn}
+use Rattle.cells.specs.Masks.{countsAt, maskWith, alike, mend, standingAfter, grantedMore}
+use Rattle.cells.specs.Build.{clearMasks, showRequest, hubsIn}
+use Rattle.cells.specs.Frames.{startNodes, newFrame, advanceBy}
+use Rattle.cells.specs.Instants.{dueBy, soughtBy}
+use Rattle.cells.specs.Turns.{Turned, chooseBy}
+use Rattle.cells.specs.Calls.{rowBy}
+
+-- ---- Masks
+
+-- beside `mend`: each hub's mask is written once, up to where the climb ends
+unfoldable pub mendWrites : List ℕ → Bool → ℕ → ℕ → ℕ → Bool → List ℕ → ℕ
+mendWrites P isHigh zero g q b s = 0
+mendWrites P isHigh (suc levels) g q b s =
+    let old = getD s (maskCell isHigh g) 0 in
+    let mask = maskWith old q b in
+    let left = set s (maskCell isHigh g) mask in
+    ifHub g
+    (if alike old mask then 1
+    else mendWrites P isHigh levels (getD P (plan.parentCell g) 0) (getD P (plan.placeCell g) 0) (anyPort (shows mask)) left + 1)
+    0
+
+-- beside `mendNode`: of both classes
+unfoldable pub mendNodeWrites : List ℕ → ℕ → List ℕ → ℕ
+mendNodeWrites P k s =
+    let g = plan.hubOfNode P k in
+    let q = plan.portOfNode P k in
+    ifNode k
+    (mendWrites P true most-levels g q (countsAt true k s) (mend P false most-levels g q (countsAt false k s) s)
+    + mendWrites P false most-levels g q (countsAt false k s) s)
+    0
+
+-- beside `putRequest`
+unfoldable pub putRequestWrites : List ℕ → ℕ → ℕ → List ℕ → ℕ
+putRequestWrites P k x s =
+    ifNode k
+    (mendNodeWrites P k (set (set s standing-cell (standingAfter (getD s standing-cell 0) (getD s (requestCell k) 0) x)) (requestCell k) x))
+    0
+
+-- beside `grantNode`
+unfoldable pub grantNodeWrites : List ℕ → Bool → ℕ → List ℕ → ℕ
+grantNodeWrites P isHigh k s =
+    ifNode k (putRequestWrites P k 0 (set s (grantedCell k) (grantedMore isHigh (getD s (grantedCell k) 0)))) 0
+
+-- ---- Build
+
+-- beside `clearMasks`: both masks of each hub
+unfoldable pub clearWrites : ℕ → ℕ
+clearWrites zero = 0
+clearWrites (suc n) = clearWrites n + 2
+
+-- beside `showPort`
+abbrev pub showPortWrites : ℕ → ℕ
+showPortWrites g = ifHub g 1 0
+
+-- beside `showRequest` and `showNodes`: one mask for a node whose request stands
+unfoldable pub showRequestWrites : List ℕ → ℕ → List ℕ → ℕ
+showRequestWrites P k s = if ltb (getD s (requestCell k) 0) 65536 then 0 else showPortWrites (plan.hubOfNode P k)
+
+unfoldable pub showNodesWrites : List ℕ → ℕ → List ℕ → ℕ
+showNodesWrites P zero s = 0
+showNodesWrites P (suc n) s = showNodesWrites P n (showRequest P (suc n) s) + showRequestWrites P (suc n) s
+
+-- beside `showHub` and `showHubs`: both masks of a hub's parent
+unfoldable pub showHubWrites : List ℕ → ℕ → ℕ
+showHubWrites P g = showPortWrites (getD P (plan.parentCell g) 0) + showPortWrites (getD P (plan.parentCell g) 0)
+
+unfoldable pub showHubsWrites : List ℕ → ℕ → ℕ
+showHubsWrites P zero = 0
+showHubsWrites P (suc n) = showHubsWrites P n + showHubWrites P (suc n)
+
+-- beside `buildMasks`
+unfoldable pub buildWrites : List ℕ → List ℕ → ℕ
+buildWrites P s =
+    showHubsWrites P (hubsIn P) + showNodesWrites P (planIn P .nodes) (clearMasks (hubsIn P) s) + clearWrites (hubsIn P)
+
+-- ---- Frames
+
+-- beside `startFrame` and `advanceBy`: only a frame's start writes
+unfoldable pub advanceWrites : List ℕ → ℕ → List ℕ → ℕ
+advanceWrites P t s = if newFrame (planIn P) t s then buildWrites P (startNodes (planIn P .nodes) s) else 0
+
+-- ---- Calls
+
+-- beside `changeBy`
+unfoldable pub changeWrites : List ℕ → Call → List ℕ → ℕ
+changeWrites P (ask c t k b) s = putRequestWrites P k (requestCode (standing c b)) s
+changeWrites P (off t k) s = putRequestWrites P k 0 s
+changeWrites P (reserve t k n b) s = 0
+changeWrites P (until t) s = 0
+changeWrites P (step t) s = 0
+
+-- beside `eventBy`
+unfoldable pub eventWrites : List ℕ → Call → List ℕ → ℕ
+eventWrites P call s =
+    if eqb (rowBy P call s) 0 then changeWrites P call (advanceBy P (time call) s) + advanceWrites P (time call) s else 0
+
+-- beside `grantBy`, and `handledBy`: a rest writes none
+unfoldable pub grantWrites : List ℕ → Bool → Turned → ℕ
+grantWrites P isHigh w = grantNodeWrites P isHigh (w .turn .node) (w .cells)
+
+unfoldable pub handledWrites : List ℕ → Sought → List ℕ → ℕ
+handledWrites P (seek.Class isHigh) s = grantWrites P isHigh (chooseBy P isHigh s)
+handledWrites P seek.Nothing s = 0
+
+-- beside `stepDue` and `stepBy`
+unfoldable pub stepDueWrites : List ℕ → Due → ℕ → List ℕ → ℕ
+stepDueWrites P Never t s = 0
+stepDueWrites P (At d) t s =
+    if ltb d t then handledWrites P (soughtBy (advanceBy P d s)) (advanceBy P d s) + advanceWrites P d s else 0
+
+unfoldable pub stepWrites : List ℕ → ℕ → List ℕ → ℕ
+stepWrites P t s = if eqb (rowBy P (step t) s) 0 then stepDueWrites P (dueBy (planIn P) s) t s else 0
+
+-- beside `performBy`: the mask cells that one call writes
+unfoldable pub callWrites : List ℕ → Call → List ℕ → ℕ
+callWrites P (step t) s = stepWrites P t s
+callWrites P (ask c t k b) s = eventWrites P (ask c t k b) s
+callWrites P (off t k) s = eventWrites P (off t k) s
+callWrites P (reserve t k n b) s = eventWrites P (reserve t k n b) s
+callWrites P (until t) s = eventWrites P (until t) s

@@ -1,0 +1,124 @@
+-- Of one call on cells of a plan that is taken: within a frame it writes at most 2 × L mask cells, and over a frame's start few more.
+use Prim.Native.Nat.{ℕ, _+_, _≤_}
+use mathlib.Core.Path.{_≡_, refl}
+use mathlib.Core.Bool.{Bool, true, false}
+use mathlib.Core.List.{List}
+use native.Mathlib.Omega.{arith}
+use lib.Dec.{ltb, eqb}
+use borrow.Author.Tests.{le-ltb}
+use Rattle.rules.specs.Plan.{Plan}
+use Rattle.rules.specs.Call.{Call, ask, off, reserve, until, step, time}
+use Rattle.rules.specs.Core.{standing, frameOf}
+use Rattle.rules.proofs.Laws.Passes.{Which, which, yes′, no′}
+use Rattle.cells.specs.declared.Due.{Due}
+use Rattle.cells.specs.declared.Due.the-variants.{At, Never}
+use Rattle.cells.specs.declared.Sought.{Sought}
+use Rattle.cells.specs.declared.Sought.the-variants as seek
+use Rattle.cells.specs.Layout.{clock-cell, timeAt, requestCode}
+use Rattle.cells.specs.Decode.{planIn}
+use Rattle.cells.specs.Frames.{startNodes, newFrame, advanceBy}
+use Rattle.cells.specs.Instants.{dueBy, soughtBy}
+use Rattle.cells.specs.Turns.{chooseBy}
+use Rattle.cells.specs.Calls.{rowBy, grantBy, restBy, handledBy, stepDue, stepBy, eventAnswer, stepAnswer, eventLeft, performBy}
+use Rattle.cells.specs.Written.{advanceWrites, changeWrites, eventWrites, grantWrites, handledWrites, stepDueWrites, stepWrites, callWrites}
+use Rattle.refinement.specs.Kept.{Ready}
+use Rattle.refinement.specs.Written.{mostInFrame, mostAtStart, frameIn, FewWrites}
+use Rattle.refinement.proofs.Written.Counts.{request-few, grant-few, build-few}
+use Rattle.refinement.proofs.Written.Told.{Named, Tells}
+use Rattle.refinement.proofs.Written.Counted.{call-counted}
+
+module _ (P : List ℕ) (R : Ready P) (s : List ℕ) where
+  abbrev p : Plan
+  p = planIn P
+
+  -- n writes of a call that leaves the clock at `now`
+  record Few (n now : ℕ) : Type 0 where
+    within : frameOf p now ≡ frameIn p s → n ≤ mostInFrame p
+    over-start : n ≤ mostInFrame p + mostAtStart p
+
+  none : (now : ℕ) → Few 0 now
+  none now = record { within = λ e. omega arith; over-start = omega arith }
+
+  -- a frame's start, where the clock comes to t
+  start-few : (t : ℕ) → advanceWrites P t s ≤ mostAtStart p
+  unfolding advanceWrites
+  start-few t = go (which (newFrame p t s))
+    where
+      go : Which (newFrame p t s) → advanceWrites P t s ≤ mostAtStart p
+      go (yes′ e) = rw e (build-few P R (startNodes (p .nodes) s))
+      go (no′ e) = rw e (omega arith)
+
+  no-start : (t : ℕ) → frameOf p t ≡ frameIn p s → advanceWrites P t s ≡ 0
+  unfolding advanceWrites
+  no-start t e = rw (le-ltb (frameIn p s) (frameOf p t) (omega arith))
+
+  -- so a change behind it
+  behind : (n t now : ℕ) → n ≤ mostInFrame p → now ≡ t → Few (n + advanceWrites P t s) now
+  behind n t now l e =
+      record {
+        within = λ f. omega (arith, no-start t (rw e at f));
+        over-start = omega (arith, start-few t);
+      }
+
+  change-few : (call : Call) (r : List ℕ) → Named p call → changeWrites P call r ≤ mostInFrame p
+  unfolding changeWrites
+  change-few (ask c t k b) r w = request-few P R k w (requestCode (standing c b)) r
+  change-few (off t k) r w = request-few P R k w 0 r
+  change-few (reserve t k n b) r w = omega arith
+  change-few (until t) r w = omega arith
+  change-few (step t) r w = omega arith
+
+  event-few : (call : Call) (now : ℕ) → Tells p call (eventAnswer (rowBy P call s)) now → Few (eventWrites P call s) now
+  unfolding eventWrites
+  event-few call now told = go (which (eqb (rowBy P call s) 0))
+    where
+      go : Which (eqb (rowBy P call s) 0) → Few (eventWrites P call s) now
+      go (yes′ e) =
+          let (w, i) = rw e at told in
+          rw e (behind (changeWrites P call (advanceBy P (time call) s)) (time call) now (change-few call (advanceBy P (time call) s) w) i)
+      go (no′ e) = rw e (none now)
+
+  handled-few : (call : Call) (d now : ℕ) (x : Sought) (r : List ℕ) → Tells p call (stepAnswer (handledBy P d x r .answer)) now
+      → Few (handledWrites P x r + advanceWrites P d s) now
+  unfolding handledBy grantBy restBy stepAnswer handledWrites grantWrites
+  handled-few call d now (seek.Class isHigh) r (w, e) =
+      behind (handledWrites P (seek.Class isHigh) r) d now
+      (grant-few P R (chooseBy P isHigh r .turn .node) w isHigh (chooseBy P isHigh r .cells)) e
+  handled-few call d now seek.Nothing r e = behind 0 d now (omega arith) e
+
+  due-few : (call : Call) (now : ℕ) (x : Due) (t : ℕ) → Tells p call (stepAnswer (stepDue P x t s .answer)) now → Few (stepDueWrites P x t s) now
+  unfolding stepDue stepDueWrites
+  due-few call now Never t told = none now
+  due-few call now (At d) t told = go (which (ltb d t))
+    where
+      go : Which (ltb d t) → Few (stepDueWrites P (At d) t s) now
+      go (yes′ l) = rw l (handled-few call d now (soughtBy (advanceBy P d s)) (advanceBy P d s) (rw l at told))
+      go (no′ l) = rw l (none now)
+
+  step-few : (call : Call) (now t : ℕ) → Tells p call (stepAnswer (stepBy P t s .answer)) now → Few (stepWrites P t s) now
+  unfolding stepBy stepWrites
+  step-few call now t told = go (which (eqb (rowBy P (step t) s) 0))
+    where
+      go : Which (eqb (rowBy P (step t) s) 0) → Few (stepWrites P t s) now
+      go (yes′ e) = rw e (due-few call now (dueBy p s) t (rw e at told))
+      go (no′ e) = rw e (none now)
+
+  call-few : (call : Call) (now : ℕ) → Tells p call (performBy P call s .answer) now → Few (callWrites P call s) now
+  unfolding performBy eventLeft callWrites
+  call-few (ask c t k b) now told = event-few (ask c t k b) now told
+  call-few (off t k) now told = event-few (off t k) now told
+  call-few (reserve t k n b) now told = event-few (reserve t k n b) now told
+  call-few (until t) now told = event-few (until t) now told
+  call-few (step t) now told = step-few (step t) now t told
+
+  -- where the answers tell so much
+  pub few-writes : ((call : Call) → Tells p call (performBy P call s .answer) (timeAt (performBy P call s .cells) clock-cell)) → FewWrites P p s
+  few-writes told =
+      record {
+        within = λ call e. omega (arith, each call .within e);
+        over-start = λ call. omega (arith, each call .over-start);
+        counted = λ call. call-counted P call s .few;
+      }
+    where
+      each : (call : Call) → Few (callWrites P call s) (timeAt (performBy P call s .cells) clock-cell)
+      each call = call-few call (timeAt (performBy P call s .cells) clock-cell) (told call)

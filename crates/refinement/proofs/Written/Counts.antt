@@ -1,0 +1,152 @@
+-- The mask cells that a change at one node writes, and those that a frame's start writes.
+use Prim.Native.Nat.{ℕ, zero, suc, _+_, _-_, _*_, _≤_}
+use mathlib.Core.Path.{_≡_, refl, sym, ap, _∙_}
+use mathlib.Core.Bool.{Bool, true, false}
+use mathlib.Core.List.{List}
+use mathlib.Core.Logic.{⊎-elim}
+use native.Mathlib.Omega.{arith}
+use native.Mathlib.Nat.{eq-or-lt-of-le, min-le-left}
+use lib.Dec.{ltb}
+use lib.ListN.{getD, set}
+use borrow.Author.Tests.{le-ltb}
+use Rattle.rules.specs.Choice.{if_then_else_}
+use Rattle.rules.specs.Plan.{Plan, most-levels, most-hubs, levels}
+use Rattle.rules.specs.Drawn.{Drawn, Within}
+use Rattle.rules.proofs.Laws.Passes.{Which, which, yes′, no′}
+use Rattle.rules.proofs.Control.Cover.{hangs}
+use Rattle.rules.proofs.Control.Levels.{level-up}
+use Rattle.rules.proofs.Control.Nearest.{level-low}
+use Rattle.ports.specs.Ports.{anyPort}
+use Rattle.ports.specs.Mask.{shows}
+use Rattle.plan_tree.specs.Tables as plan
+use Rattle.plan.specs.Tables.{planOf}
+use Rattle.cells.specs.Layout.{standing-cell, maskCell, requestCell, grantedCell}
+use Rattle.cells.specs.Decode.{planIn}
+use Rattle.cells.specs.Masks.{countsAt, maskWith, alike, mend, standingAfter, grantedMore}
+use Rattle.cells.specs.Build.{clearMasks, showRequest, hubsIn}
+use Rattle.cells.specs.Written.{mendWrites, mendNodeWrites, putRequestWrites, grantNodeWrites, clearWrites, showPortWrites, showRequestWrites, showNodesWrites, showHubWrites, showHubsWrites, buildWrites}
+use Rattle.refinement.specs.Kept.{Ready}
+use Rattle.refinement.specs.Written.{mostInFrame, mostAtStart}
+
+-- a hub's mask is one cell
+port-few : (g : ℕ) → showPortWrites g ≤ 1
+port-few g = go (which (ltb g 1)) (which (ltb 32 g))
+  where
+    go : Which (ltb g 1) → Which (ltb 32 g) → showPortWrites g ≤ 1
+    go (yes′ e) t = rw e (omega arith)
+    go (no′ e) (yes′ h) = rw (e, h) (omega arith)
+    go (no′ e) (no′ h) = rw (e, h) (omega arith)
+
+module _ (P : List ℕ) (R : Ready P) where
+  abbrev p : Plan
+  p = planIn P
+
+  abbrev D : Drawn p
+  D = R .drawn
+
+  -- nothing is mended above the root
+  mend-none : (isHigh : Bool) (levels q : ℕ) (b : Bool) (s : List ℕ) → mendWrites P isHigh levels 0 q b s ≡ 0
+  unfolding mendWrites
+  mend-none isHigh zero q b s = refl
+  mend-none isHigh (suc levels) q b s = refl
+
+  FewAt : Bool → ℕ → Type 0
+  FewAt isHigh levels = (g q : ℕ) (b : Bool) (s : List ℕ) → Within (p .hubs) g → mendWrites P isHigh levels g q b s ≤ p .level g
+
+  -- the climb goes up one level with each mask
+  one-up : (isHigh : Bool) (levels g q : ℕ) (b : Bool) (s : List ℕ) → Within (p .hubs) g → FewAt isHigh levels
+      → mendWrites P isHigh levels (p .parent g) q b s + 1 ≤ p .level g
+  unfolding FewAt planOf
+  one-up isHigh levels g q b s w onward =
+      ⊎-elim at-root (λ l. omega (arith, onward (p .parent g) q b s (D .hung-parent g l (w .up)), hangs p D g l (w .up) .hung .level))
+      (eq-or-lt-of-le (w .low))
+    where
+      low : 1 ≤ p .level g
+      low = level-low p D g w
+
+      at-root : 1 ≡ g → mendWrites P isHigh levels (p .parent g) q b s + 1 ≤ p .level g
+      at-root e =
+          let none : p .parent g ≡ 0 = ap (p .parent) (sym e) ∙ R .root-parent in
+          rw (none, mend-none isHigh levels q b s) low
+
+  mend-few : (isHigh : Bool) (levels : ℕ) → FewAt isHigh levels
+  unfolding FewAt mendWrites planOf
+  mend-few isHigh zero g q b s w = omega arith
+  mend-few isHigh (suc levels) g q b s w =
+      rw (le-ltb g 1 (w .low), le-ltb 32 g (omega (arith, w .up, D .few-hubs)))
+      (go (which (alike old mask)) (one-up isHigh levels g (p .place g) (anyPort (shows mask)) (set s (maskCell isHigh g) mask) w (mend-few isHigh levels)))
+    where
+      old : ℕ
+      old = getD s (maskCell isHigh g) 0
+
+      mask : ℕ
+      mask = maskWith old q b
+
+      go : {n : ℕ} → Which (alike old mask) → n ≤ p .level g → (if alike old mask then 1 else n) ≤ p .level g
+      go (yes′ e) l = rw e (omega (arith, level-low p D g w))
+      go (no′ e) l = rw e l
+
+  -- a change at node k
+  module _ (k : ℕ) (w : Within (p .nodes) k) where
+    node-few : (s : List ℕ) → mendNodeWrites P k s ≤ mostInFrame p
+    unfolding mendNodeWrites FewAt
+    node-few s =
+        let g = plan.hubOfNode P k in
+        let q = plan.portOfNode P k in
+        let h = R .node-port k w .hub in
+        rw (le-ltb k 1 (w .low), le-ltb 256 k (omega (arith, w .up, D .few-nodes)))
+        (omega (
+          arith,
+          level-up p D g h,
+          mend-few true most-levels g q (countsAt true k s) (mend P false most-levels g q (countsAt false k s) s) h,
+          mend-few false most-levels g q (countsAt false k s) s h,
+        ))
+
+    pub request-few : (x : ℕ) (s : List ℕ) → putRequestWrites P k x s ≤ mostInFrame p
+    unfolding putRequestWrites
+    request-few x s =
+        rw (le-ltb k 1 (w .low), le-ltb 256 k (omega (arith, w .up, D .few-nodes)))
+        (node-few (set (set s standing-cell (standingAfter (getD s standing-cell 0) (getD s (requestCell k) 0) x)) (requestCell k) x))
+
+    pub grant-few : (isHigh : Bool) (s : List ℕ) → grantNodeWrites P isHigh k s ≤ mostInFrame p
+    unfolding grantNodeWrites
+    grant-few isHigh s =
+        rw (le-ltb k 1 (w .low), le-ltb 256 k (omega (arith, w .up, D .few-nodes)))
+        (request-few 0 (set s (grantedCell k) (grantedMore isHigh (getD s (grantedCell k) 0))))
+
+  -- a frame's start
+  clear-is : (n : ℕ) → clearWrites n ≡ 2 * n
+  unfolding clearWrites
+  clear-is zero = refl
+  clear-is (suc n) = omega (arith, clear-is n)
+
+  shown-few : (k : ℕ) (s : List ℕ) → showRequestWrites P k s ≤ 1
+  unfolding showRequestWrites
+  shown-few k s = go (which (ltb (getD s (requestCell k) 0) 65536))
+    where
+      go : Which (ltb (getD s (requestCell k) 0) 65536) → showRequestWrites P k s ≤ 1
+      go (yes′ e) = rw e (omega arith)
+      go (no′ e) = rw e (port-few (plan.hubOfNode P k))
+
+  nodes-few : (n : ℕ) (s : List ℕ) → showNodesWrites P n s ≤ n
+  unfolding showNodesWrites
+  nodes-few zero s = omega arith
+  nodes-few (suc n) s = omega (arith, nodes-few n (showRequest P (suc n) s), shown-few (suc n) s)
+
+  -- the root has no parent
+  hubs-few : (n : ℕ) → showHubsWrites P n ≤ 2 * (n - 1)
+  unfolding showHubsWrites showHubWrites
+  hubs-few zero = omega arith
+  hubs-few (suc zero) = rw (R .root-parent) (omega arith)
+  hubs-few (suc (suc n)) = omega (arith, hubs-few (suc n), port-few (getD P (plan.parentCell (suc (suc n))) 0))
+
+  pub build-few : (s : List ℕ) → buildWrites P s ≤ mostAtStart p
+  unfolding buildWrites
+  build-few s =
+      omega (
+        arith,
+        min-le-left (p .hubs) most-hubs,
+        hubs-few (hubsIn P),
+        nodes-few (p .nodes) (clearMasks (hubsIn P) s),
+        clear-is (hubsIn P),
+      )
