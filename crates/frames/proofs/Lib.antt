@@ -1,4 +1,5 @@
 -- What the functions' proofs cite.
 pub mod Reclassing
 pub mod Sums
+pub mod Ending
 pub mod Starting

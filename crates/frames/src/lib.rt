@@ -5,6 +5,7 @@ use cells::Cascade;
 use plan_tree::Plan;
 ghost use mathlib.Core.Path.{_≡_};
 ghost use Prim.Native.Nat.{_+_, _*_, _/_, _%_, _≤_, _<_};
+ghost use lib.Dec.{ltb};
 ghost use lib.ListN.{getD};
 ghost use Rattle.rules.specs.Choice.{sum};
 ghost use Rattle.rules.specs.Plan.{most-nodes};
@@ -75,11 +76,25 @@ fn start_frame(p: &Plan, s: &mut Cascade)
     masks::build(p, s);
 }
 
+// Whether the frame of the clock ends at t at the latest, with one division in place of one for each time.
+fn ends_by(frame: u32, clock: u64, t: u64) -> bool
+    ensures { λ r. ⌜ r ≡ ltb (clock / frame) (t / frame) ⌝ }
+{
+    if frame == 0 {
+        return false;
+    }
+    let start = clock / frame as u64 * frame as u64;
+    if t < start {
+        return false;
+    }
+    frame as u64 <= t - start
+}
+
 // Whether the clock's frame ends before t.
 pub fn new_frame(p: &Plan, s: &Cascade, t: u64) -> bool
     ensures { λ r. ⌜ r ≡ newFrame (planIn (now (p .entry))) t (now (s .entry)) ⌝ }
 {
-    frame_of(p[plan::FRAME], requests::clock(s)) < frame_of(p[plan::FRAME], t)
+    ends_by(p[plan::FRAME], requests::clock(s), t)
 }
 
 // The clock comes to t.
