@@ -24,7 +24,6 @@ use Rattle.rules.proofs.Control.FollowsFlat.{control-follows}
 use Rattle.rules.proofs.Flat.Turns.{node-counts}
 use Rattle.rules.proofs.Core.AlwaysSound.{Good, turn-counts}
 use Rattle.ports.specs.Mask.{digit}
-use Rattle.plan_tree.specs.Tables as plan
 use Rattle.plan.specs.Tables.{planOf}
 use Rattle.cells.specs.declared.Due.{Due}
 use Rattle.cells.specs.declared.Due.the-variants.{At, Never}

@@ -1,6 +1,5 @@
 -- No mask changes that isn't counted: each count is at least the masks that its definition changes, for every content of both tables.
 use Prim.Native.Nat.{ℕ, zero, suc, _+_, _-_, _/_, _≤_}
-use mathlib.Core.Path.{_≡_, refl}
 use mathlib.Core.Bool.{Bool, true, false}
 use mathlib.Core.List.{List}
 use native.Mathlib.Omega.{arith}
@@ -27,7 +26,7 @@ use Rattle.cells.specs.declared.Due.{Due}
 use Rattle.cells.specs.declared.Due.the-variants.{At, Never}
 use Rattle.cells.specs.declared.Sought.{Sought}
 use Rattle.cells.specs.declared.Sought.the-variants as seek
-use Rattle.cells.specs.Layout.{clock-cell, end-cell, busy-cell, holder-cell, class-cell, standing-cell, maskCell, pointerCell, requestCell, forceCell, latestCell, grantedCell, ifHub, putTime, two-32, requestCode, shareCode, unmarkedCode, markedCode}
+use Rattle.cells.specs.Layout.{clock-cell, end-cell, busy-cell, holder-cell, class-cell, standing-cell, maskCell, pointerCell, requestCell, forceCell, latestCell, grantedCell, putTime, requestCode, shareCode, unmarkedCode, markedCode}
 use Rattle.cells.specs.Decode.{planIn}
 use Rattle.cells.specs.Masks.{countsAt, maskWith, alike, mend, mendNode, standingAfter, putRequest, grantedMore, grantNode}
 use Rattle.cells.specs.Build.{clearMasks, showPort, showRequest, showNodes, summary, showHub, showHubs, hubsIn, buildMasks}

@@ -1,5 +1,5 @@
 -- The worked list, by one computation: a lesser bound would be passed by it.
-use mathlib.Core.Path.{_≡_, refl}
+use mathlib.Core.Path.{refl}
 use Rattle.rules.specs.Choice.{any, sum, first}
 use Rattle.rules.specs.Core.{advance}
 use Rattle.rules.specs.Plan.{deepest}
