@@ -68,8 +68,8 @@ fn alike(old: u32, mask: u32) -> bool
     ports::any_shown(old) == ports::any_shown(mask)
 }
 
-// Port q of hub g shows in a class a request or none: its bit is put. Only where
-// what the hub shows at all changes does its parent's mask change.
+// Port q of hub g shows in a class a request or none: its bit is put. Only where what the hub shows at all
+// changes does its parent's mask change, and it changes as the bit did: so b goes up as it is.
 fn mend(p: &Plan, s: &mut Cascade, high: bool, g: u32, q: u32, b: bool, levels: u32)
     ensures { λ _. ⌜ now (s .exit) ≡ mend (now (p .entry)) high levels g q b (now (s .entry)) ⌝ }
 {
@@ -96,7 +96,7 @@ fn mend(p: &Plan, s: &mut Cascade, high: bool, g: u32, q: u32, b: bool, levels: 
         high,
         p[own + plan_tree::PARENT],
         p[own + plan_tree::PLACE],
-        ports::any_shown(mask),
+        b,
         levels - 1,
     );
 }

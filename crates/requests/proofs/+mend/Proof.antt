@@ -12,7 +12,6 @@ use Rattle.requests.proofs.mend.Reads as mend
 use Rattle.requests.proofs.mend.Kinds as mend-kinds
 use Rattle.requests.proofs.+mend.Lts-mend as mend-lts
 use Rattle.requests.proofs.alike.Reads as alike-reads
-use Rattle.ports.proofs.any_shown.Reads as any-shown-reads
 use Rattle.ports.proofs.put_port.Reads as put-port-reads
 use Rattle.requests.proofs.+mend.{statement}
 use Rattle.requests.proofs.+mend.Tie.{close}
@@ -28,16 +27,7 @@ mend-below t = and 2 mend-kinds.ps (falls 2 mend-kinds.ps _<_ μ-mend t) mend.Pr
 
 -- what the calls ask and give
 abbrev met : ℕ → mend-lts.Claims
-met t = (
-  put-port-reads.Asked,
-  put-port-reads.Learnt,
-  alike-reads.Asked,
-  alike-reads.Learnt,
-  any-shown-reads.Asked,
-  any-shown-reads.Learnt,
-  mend-below t,
-  mend.Post,
-)
+met t = (put-port-reads.Asked, put-port-reads.Learnt, alike-reads.Asked, alike-reads.Learnt, mend-below t, mend.Post)
 
 mend-returns : (t : ℕ) → mend-lts.Need-returns (met t) (mend-at t) mend.Post
 mend-returns t c =
@@ -123,9 +113,6 @@ mend-mul-mend-2 t c = search needs
 mend-element-copy-out-mend-2 : (t : ℕ) → mend-lts.Need-element-copy-out-mend-2 (met t) (mend-at t) mend.Post
 mend-element-copy-out-mend-2 t c = search needs
 
-mend-any-shown-requires : (t : ℕ) → mend-lts.Need-any-shown-requires (met t) (mend-at t) mend.Post
-mend-any-shown-requires t c κs = search needs
-
 mend-sub-mend : (t : ℕ) → mend-lts.Need-sub-mend (met t) (mend-at t) mend.Post
 mend-sub-mend t c = search needs
 
@@ -134,15 +121,14 @@ mend-mend-requires t c κs = search needs
 
 mend-returns-5 : (t : ℕ) → mend-lts.Need-returns-5 (met t) (mend-at t) mend.Post
 mend-returns-5 t c =
-    let shown = c .before in
-    let found = shown .before .before .before .before in
+    let found = c .before .before .before .before in
     let put = found .before .before in
     let inside = put .before .before in
     let a = inside .before .before .before .args in
     goes-on (a .p .now) (a .high) (a .g) (a .q) (a .b) (a .s .now) (hubCell (a .g) (boolByte (a .high))) (put .put-port .result)
     (inside .before .if2 .left) (inside .if3 .left) (ap (hubCell (a .g)) (byte-digit (a .high))) (put .put-port .ensures)
     (a .levels) (inside .before .before .if1 .left) (sym (found .before .alike .ensures) ∙ found .if4 .left)
-    (shown .any-shown .result) (c .mend .last .1 .0) (shown .any-shown .ensures) (c .mend .ensures)
+    (c .mend .last .1 .0) (c .mend .ensures)
 
 pub +mend-spec : {M : Type 1} → statement M
 +mend-spec = close μ-mend λ t. mend-lts.spec (met t)
@@ -172,7 +158,6 @@ pub +mend-spec : {M : Type 1} → statement M
     (mend-add-mend-2 t)
     (mend-mul-mend-2 t)
     (mend-element-copy-out-mend-2 t)
-    (mend-any-shown-requires t)
     (mend-sub-mend t)
     (mend-mend-requires t)
     (mend-returns-5 t)
