@@ -3,15 +3,15 @@
 use Prim.Native.Nat.{ℕ, zero, suc, min}
 use mathlib.Core.Bool.{Bool, true, false}
 use mathlib.Core.List.{List}
-use lib.Dec.{ltb, leb}
+use lib.Dec.{leb}
 use lib.ListN.{getD, set}
-use Rattle.rules.specs.Choice.{if_then_else_}
 use Rattle.rules.specs.Plan.{most-hubs}
 use Rattle.ports.specs.Ports.{withPort, anyPort}
 use Rattle.ports.specs.Mask.{shows, maskOf}
 use Rattle.plan_tree.specs.Tables as plan
 use Rattle.cells.specs.Layout.{maskCell, requestCell, ifHub}
 use Rattle.cells.specs.Decode.{planIn}
+use Rattle.cells.specs.Masks.{stands}
 
 -- hubs n to 1 show nothing
 unfoldable pub clearMasks : ℕ → List ℕ → List ℕ
@@ -23,12 +23,12 @@ unfoldable pub showPort : Bool → ℕ → ℕ → Bool → List ℕ → List �
 showPort isHigh g q b s =
     ifHub g (set s (maskCell isHigh g) (maskOf (withPort (shows (getD s (maskCell isHigh g) 0)) q b))) s
 
--- node k's port shows a standing request in its class: at a frame's start each
+-- node k's port shows its request, if one stands, in its class: at a frame's start each
 -- one counts, a high one too, since n is at least 1 and no high grant is counted yet
 unfoldable pub showRequest : List ℕ → ℕ → List ℕ → List ℕ
 showRequest P k s =
     let x = getD s (requestCell k) 0 in
-    if ltb x 65536 then s else showPort (leb 131072 x) (plan.hubOfNode P k) (plan.portOfNode P k) true s
+    showPort (leb 131072 x) (plan.hubOfNode P k) (plan.portOfNode P k) (stands x) s
 
 -- nodes n to 1
 unfoldable pub showNodes : List ℕ → ℕ → List ℕ → List ℕ

@@ -53,27 +53,24 @@ module _ (high : Bool) (g q : ℕ) (b : Bool) (s : List ℕ) where
 
 -- ---- the nodes
 
-module _ (P s : List ℕ) (n : ℕ) where
-  pub none-stands : getD s (requestCell n) 0 < 65536 → s ≡ showRequest P n s
-  unfolding showRequest
-  none-stands h = simp (lt-ltb _ _ h)
-
-  pub request-shown : 65536 ≤ getD s (requestCell n) 0
-      → showPort (leb 131072 (getD s (requestCell n) 0)) (plan.hubOfNode P n) (plan.portOfNode P n) true s ≡ showRequest P n s
-  unfolding showRequest
-  request-shown h = simp (le-ltb _ _ h)
-
-  pub no-nodes : n ≡ 0 → s ≡ showNodes P n s
-  unfolding showNodes
-  no-nodes e = rw e
+pub no-nodes : (P s : List ℕ) (n : ℕ) → n ≡ 0 → s ≡ showNodes P n s
+unfolding showNodes
+no-nodes P s n e = rw e
 
 nodes-step : (P s : List ℕ) (n : ℕ) → (n ≡ 0 → ⊥) → showNodes P (n - 1) (showRequest P n s) ≡ showNodes P n s
 unfolding showNodes
 nodes-step P s zero h = absurd (h refl)
 nodes-step P s (suc n) h = simp unary-clauses
 
-pub some-nodes : (P s : List ℕ) (n : ℕ) (r z : List ℕ) → (n ≡ 0 → ⊥) → r ≡ showRequest P n s → z ≡ showNodes P (n - 1) r → z ≡ showNodes P n s
-some-nodes P s n r z h e i = i ∙ ap (showNodes P (n - 1)) e ∙ nodes-step P s n h
+module _ (P s : List ℕ) (n : ℕ) where
+  -- what stands at node n is shown, by the bounds of the classes
+  abbrev pub shown : ℕ → ℕ → List ℕ
+  shown high normal =
+      showPort (leb high (getD s (requestCell n) 0)) (plan.hubOfNode P n) (plan.portOfNode P n) (leb normal (getD s (requestCell n) 0)) s
+
+  pub some-nodes : (r z : List ℕ) → (n ≡ 0 → ⊥) → r ≡ shown 131072 65536 → z ≡ showNodes P (n - 1) r → z ≡ showNodes P n s
+  unfolding showRequest
+  some-nodes r z h e i = i ∙ ap (showNodes P (n - 1)) e ∙ nodes-step P s n h
 
 -- ---- the hubs
 
@@ -104,11 +101,7 @@ module _ (P s : List ℕ) (n : ℕ) where
 
 -- ---- all of them
 
-pub built : (P s : List ℕ) (h n : ℕ) (r t z : List ℕ) → h ≡ hubsIn P → n ≡ planIn P .nodes → r ≡ clearMasks h s → t ≡ showNodes P n r
-    → z ≡ showHubs P h t → z ≡ buildMasks P s
+pub built : (P s r t z : List ℕ) → r ≡ clearMasks (hubsIn P) s → t ≡ showNodes P (planIn P .nodes) r → z ≡ showHubs P (hubsIn P) t
+    → z ≡ buildMasks P s
 unfolding buildMasks
-built P s h n r t z a b e f i =
-    i
-    ∙ ap (λ (x : ℕ). showHubs P x t) a
-    ∙ ap (showHubs P (hubsIn P))
-    (f ∙ ap (λ (x : ℕ). showNodes P x r) b ∙ ap (showNodes P (planIn P .nodes)) (e ∙ ap (λ (x : ℕ). clearMasks x s) a))
+built P s r t z e f i = i ∙ ap (showHubs P (hubsIn P)) (f ∙ ap (showNodes P (planIn P .nodes)) e)

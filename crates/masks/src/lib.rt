@@ -62,7 +62,8 @@ fn show_port(s: &mut Cascade, high: bool, g: u32, q: u32, b: bool)
     s[at] = ports::with_port(s[at], q, b);
 }
 
-// Nodes n to 1: the port of each shows a standing request in its class.
+// Nodes n to 1: the port of each shows in its class whether a request stands.
+// There is no test for it: the processor couldn't foresee its outcome, and each wrong guess costs more than an or of nothing.
 fn show_nodes(p: &Plan, s: &mut Cascade, n: u32)
     requires { ⌜ n ≤ most-nodes ⌝ }
     ensures { λ _. ⌜ now (s .exit) ≡ showNodes (now (p .entry)) n (now (s .entry)) ⌝ }
@@ -73,15 +74,13 @@ fn show_nodes(p: &Plan, s: &mut Cascade, n: u32)
     let at = cells::NODES + (n as usize - 1) * cells::PER_NODE + cells::REQUEST;
     let own = plan_tree::NODES + (n as usize - 1) * plan_tree::PER_NODE;
     let x = s[at];
-    if cells::NORMAL <= x {
-        show_port(
-            s,
-            cells::HIGH <= x,
-            p[own + plan_tree::NODE_HUB],
-            p[own + plan_tree::NODE_PORT],
-            true,
-        );
-    }
+    show_port(
+        s,
+        cells::HIGH <= x,
+        p[own + plan_tree::NODE_HUB],
+        p[own + plan_tree::NODE_PORT],
+        cells::NORMAL <= x,
+    );
     show_nodes(p, s, n - 1);
 }
 

@@ -24,7 +24,7 @@ use Rattle.plan_tree.specs.Tables as plan
 use Rattle.plan.specs.Tables.{planOf}
 use Rattle.cells.specs.Layout.{cells, maskCell, requestCell}
 use Rattle.cells.specs.Decode.{planIn, isNode}
-use Rattle.cells.specs.Masks.{countsAt}
+use Rattle.cells.specs.Masks.{countsAt, stands}
 use Rattle.cells.specs.Build.{clearMasks, showPort, showRequest, showNodes, summary, showHub, showHubs, hubsIn, buildMasks}
 use Rattle.refinement.specs.Kept.{Ready, SameButMasks, countsOf, seenAt, Mended}
 use Rattle.refinement.proofs.Same.{node-no-mask, same-trans}
@@ -181,17 +181,21 @@ module _ (n : ℕ) (few : n ≤ 32) (F : Sets) (d : Bool) (g q : ℕ) (b : Bool)
 
 -- the class in which a request's cell shows
 abbrev pub shownIn : Bool → ℕ → Bool
-shownIn c x = not (ltb x 65536) && sameClass c (leb 131072 x)
+shownIn c x = stands x && sameClass c (leb 131072 x)
 
 -- node k, whose request's cell is x k, shows at port r of hub h
 abbrev nodeAt : List ℕ → (ℕ → ℕ) → Bool → ℕ → ℕ → ℕ → Bool
 nodeAt P x c h r k = shownIn c (x k) && (eqb h (plan.hubOfNode P k) && eqb r (plan.portOfNode P k))
 
-and-moved : (a b d : Bool) → ((a && b) && (d && true)) ≡ (a && (b && d))
-and-moved true true true = refl
-and-moved true true false = refl
-and-moved true false d = refl
-and-moved false b d = refl
+and-moved : (a b d e : Bool) → ((a && b) && (d && e)) ≡ ((e && a) && (b && d))
+and-moved true true true true = refl
+and-moved true true true false = refl
+and-moved true true false true = refl
+and-moved true true false false = refl
+and-moved true false d true = refl
+and-moved true false d false = refl
+and-moved false b d true = refl
+and-moved false b d false = refl
 
 or-moved : (a b d : Bool) → ((a || b) || d) ≡ (a || (d || b))
 or-moved true b d = refl
@@ -202,37 +206,28 @@ or-moved false false false = refl
 
 request-size : (P : List ℕ) (k : ℕ) (s : List ℕ) → length (showRequest P k s) ≡ length s
 unfolding showRequest
-request-size P k s = go (which (ltb (getD s (requestCell k) 0) 65536))
-  where
-    go : Which (ltb (getD s (requestCell k) 0) 65536) → length (showRequest P k s) ≡ length s
-    go (yes′ e) = rw e
-    go (no′ e) = rw e (show-size (leb 131072 (getD s (requestCell k) 0)) (plan.hubOfNode P k) (plan.portOfNode P k) true s)
+request-size P k s =
+    let x = getD s (requestCell k) 0 in
+    show-size (leb 131072 x) (plan.hubOfNode P k) (plan.portOfNode P k) (stands x) s
 
 request-same : (P : List ℕ) (k : ℕ) (s : List ℕ) → SameButMasks s (showRequest P k s)
 unfolding showRequest
-request-same P k s i other = go (which (ltb (getD s (requestCell k) 0) 65536))
-  where
-    go : Which (ltb (getD s (requestCell k) 0) 65536) → getD (showRequest P k s) i 0 ≡ getD s i 0
-    go (yes′ e) = rw e
-    go (no′ e) = rw e (show-same (leb 131072 (getD s (requestCell k) 0)) (plan.hubOfNode P k) (plan.portOfNode P k) true s i other)
+request-same P k s =
+    let x = getD s (requestCell k) 0 in
+    show-same (leb 131072 x) (plan.hubOfNode P k) (plan.portOfNode P k) (stands x) s
 
 module _ (P : List ℕ) (n : ℕ) (few : n ≤ 32) (x : ℕ → ℕ) where
   request-coded : (F : Sets) (k : ℕ) (s : List ℕ) → length s ≡ cells → getD s (requestCell k) 0 ≡ x k → Coded n F s
       → Coded n (λ c h r. F c h r || nodeAt P x c h r k) (showRequest P k s)
   unfolding showRequest
-  request-coded F k s size e coded = rw e (go (which (ltb (x k) 65536)))
-    where
-      go : Which (ltb (x k) 65536)
-          → Coded n (λ c h r. F c h r || nodeAt P x c h r k)
-          (if ltb (x k) 65536 then s else showPort (leb 131072 (x k)) (plan.hubOfNode P k) (plan.portOfNode P k) true s)
-      go (yes′ t) = rw t (recoded n F (λ c h r. F c h r || false) s (λ c h r w l u. sym (or-false (F c h r))) coded)
-      go (no′ t) =
-          rw t
-          (recoded n (More F (leb 131072 (x k)) (plan.hubOfNode P k) (plan.portOfNode P k) true)
-          (λ c h r. F c h r || (sameClass c (leb 131072 (x k)) && (eqb h (plan.hubOfNode P k) && eqb r (plan.portOfNode P k))))
-          (showPort (leb 131072 (x k)) (plan.hubOfNode P k) (plan.portOfNode P k) true s)
-          (λ c h r w l u. ap (λ (y : Bool). F c h r || y) (and-moved (sameClass c (leb 131072 (x k))) (eqb h (plan.hubOfNode P k)) (eqb r (plan.portOfNode P k))))
-          (show-coded n few F (leb 131072 (x k)) (plan.hubOfNode P k) (plan.portOfNode P k) true s size coded))
+  request-coded F k s size e coded =
+      let g = plan.hubOfNode P k in
+      let q = plan.portOfNode P k in
+      let d = leb 131072 (x k) in
+      rw e
+      (recoded n (More F d g q (stands (x k))) (λ c h r. F c h r || nodeAt P x c h r k) (showPort d g q (stands (x k)) s)
+      (λ c h r w l u. ap (λ (y : Bool). F c h r || y) (and-moved (sameClass c d) (eqb h g) (eqb r q) (stands (x k))))
+      (show-coded n few F d g q (stands (x k)) s size coded))
 
   nodes-coded : (m : ℕ) (F : Sets) (s : List ℕ) → length s ≡ cells → ((k : ℕ) → getD s (requestCell k) 0 ≡ x k) → Coded n F s
       → Coded n (λ c h r. F c h r || any m (nodeAt P x c h r)) (showNodes P m s)

@@ -68,12 +68,12 @@ class-shown : (isHigh : Bool) (x : ℕ) → isClass (classOf isHigh) (requestOf 
 class-shown isHigh x = go isHigh (which (ltb x 65536)) (which (ltb x 131072))
   where
     go : (isHigh : Bool) → Which (ltb x 65536) → Which (ltb x 131072) → isClass (classOf isHigh) (requestOf x) ≡ shownIn isHigh x
-    go true (yes′ a) b = rw a
-    go false (yes′ a) b = rw a
-    go true (no′ a) (yes′ b) = rw (a, b, lt-leb 131072 x (ltb-true x 131072 b))
-    go false (no′ a) (yes′ b) = rw (a, b, lt-leb 131072 x (ltb-true x 131072 b))
-    go true (no′ a) (no′ b) = rw (a, b, le-leb 131072 x (ltb-false x 131072 b))
-    go false (no′ a) (no′ b) = rw (a, b, le-leb 131072 x (ltb-false x 131072 b))
+    go true (yes′ a) b = rw (a, lt-leb 65536 x (ltb-true x 65536 a))
+    go false (yes′ a) b = rw (a, lt-leb 65536 x (ltb-true x 65536 a))
+    go true (no′ a) (yes′ b) = rw (a, b, le-leb 65536 x (ltb-false x 65536 a), lt-leb 131072 x (ltb-true x 131072 b))
+    go false (no′ a) (yes′ b) = rw (a, b, le-leb 65536 x (ltb-false x 65536 a), lt-leb 131072 x (ltb-true x 131072 b))
+    go true (no′ a) (no′ b) = rw (a, b, le-leb 65536 x (ltb-false x 65536 a), le-leb 131072 x (ltb-false x 131072 b))
+    go false (no′ a) (no′ b) = rw (a, b, le-leb 65536 x (ltb-false x 65536 a), le-leb 131072 x (ltb-false x 131072 b))
 
 -- a request that is high behind a frame's start has a packet left: n is at least 1, and no high grant is counted
 share-left : (r : Share) (x : Request) → (isClass high (reclassed r x) && ltb 0 (r .packets)) ≡ isClass high (reclassed r x)

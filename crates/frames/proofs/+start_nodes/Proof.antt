@@ -1,8 +1,9 @@
 -- `frames::start_nodes` meets its contract, and ends since n falls.
 use Prim.Native.Nat.{ℕ, _-_, _<_}
 use mathlib.Core.Path.{ap, _∙_}
+use native.Mathlib.Omega.{arith}
 use borrow.Author.Needs.{needs}
-use Rattle.cells.specs.Frames.{startNodes}
+use Rattle.cells.specs.Frames.{startCells, startNodes}
 use Rattle.frames.proofs.Starting.{starts-none, starts-some}
 use borrow.Fn.Kinds.{In}
 use borrow.Fn.PlainCycle.{Measures, is, falls, and}
@@ -45,7 +46,7 @@ start-nodes-returns-2 t c =
     let b = c .before .before in
     let a = b .before .before .before .args in
     c .start-nodes .ensures
-    ∙ ap (startNodes (a .n - 1)) (b .start-cells .ensures)
+    ∙ ap (startNodes (a .n - 1)) (b .start-cells .ensures ∙ ap (λ (k : ℕ). startCells k (a .s .now)) (omega arith))
     ∙ starts-some (a .s .now) (a .n) (b .before .before .if1 .left)
 
 pub +start-nodes-spec : {M : Type 1} → statement M

@@ -1,9 +1,9 @@
 -- `masks::show_nodes` meets its contract, and ends since n falls.
 use Prim.Native.Nat.{ℕ, _<_}
-use mathlib.Core.Path.{_∙_}
-use mathlib.Core.Logic.{⊎-elim}
+use mathlib.Core.Path.{ap₂, _∙_}
+use native.Mathlib.Omega.{arith}
 use borrow.Author.Needs.{needs}
-use Rattle.masks.proofs.Building.{no-nodes, some-nodes, none-stands, request-shown}
+use Rattle.masks.proofs.Building.{no-nodes, shown, some-nodes}
 use borrow.Fn.Kinds.{In}
 use borrow.Fn.PlainCycle.{Measures, is, falls, and}
 use Rattle.masks.proofs.show_nodes.Reads as show-nodes
@@ -87,14 +87,11 @@ show-nodes-show-nodes-requires t c κs = search needs
 
 show-nodes-returns-2 : (t : ℕ) → show-nodes-lts.Need-returns-2 (met t) (show-nodes-at t) show-nodes.Post
 show-nodes-returns-2 t c =
-    let j = c .before .before in
-    let e = j .before .before in
+    let b = c .before .before in
+    let e = b .before .before .before .before .before in
     let a = e .before .args in
-    some-nodes (a .p .now) (a .s .now) (a .n) (j .if2 .s) _ (e .if1 .left)
-    (⊎-elim
-    (λ w. w .5 ∙ w .4 .ensures ∙ request-shown (a .p .now) (a .s .now) (a .n) (w .0 .taken))
-    (λ w. w .1 ∙ none-stands (a .p .now) (a .s .now) (a .n) (w .0 .left))
-    (j .if2 .came))
+    some-nodes (a .p .now) (a .s .now) (a .n) (b .show-port .last .0) _ (e .if1 .left)
+    (b .show-port .ensures ∙ ap₂ (λ (high normal : ℕ). shown (a .p .now) (a .s .now) (a .n) high normal) (omega arith) (omega arith))
     (c .show-nodes .ensures)
 
 pub +show-nodes-spec : {M : Type 1} → statement M

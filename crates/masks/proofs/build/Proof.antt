@@ -1,5 +1,9 @@
 -- `masks::build` meets its contract: three passes.
+use Prim.Native.Nat.{ℕ}
+use mathlib.Core.Path.{ap, _∙_}
+use native.Mathlib.Omega.{arith}
 use borrow.Author.Needs.{needs}
+use Rattle.cells.specs.Build.{clearMasks, showNodes, showHubs}
 use Rattle.masks.proofs.Building.{built}
 use Rattle.masks.proofs.build.Statement.{statement}
 use Rattle.masks.proofs.build.Tie as tie
@@ -21,13 +25,13 @@ show-hubs-requires c κs = search needs
 
 returns : tie.Need-returns
 returns c =
-    let nodes = c .before .before .before in
-    let clear = nodes .before .before in
-    let hubs = clear .before .before in
-    let a = hubs .before .args in
-    built (a .p .now) (a .s .now) (hubs .hubs .result) (nodes .nodes .result) (clear .clear-masks .last .0)
-    (c .before .before .show-nodes .last .1 .0) _ (hubs .hubs .ensures) (nodes .nodes .ensures)
-    (clear .clear-masks .ensures) (c .before .before .show-nodes .ensures) (c .show-hubs .ensures)
+    let shown = c .before .before in
+    let clear = shown .before .before .before in
+    let a = clear .before .before .before .args in
+    built (a .p .now) (a .s .now) (clear .clear-masks .last .0) (shown .show-nodes .last .1 .0) _
+    (clear .clear-masks .ensures ∙ ap (λ (n : ℕ). clearMasks n (a .s .now)) (omega arith))
+    (shown .show-nodes .ensures ∙ ap (λ (n : ℕ). showNodes (a .p .now) n (clear .clear-masks .last .0)) (omega arith))
+    (c .show-hubs .ensures ∙ ap (λ (n : ℕ). showHubs (a .p .now) n (shown .show-nodes .last .1 .0)) (omega arith))
 
 pub build-spec : {M : Type 1} → statement M
 build-spec =
