@@ -19,7 +19,7 @@ use Rattle.cells.specs.Turns.{downBy, takeBy, upBy, handUpBy, foundBy, lookBy, 
 use Rattle.cells.specs.Calls.{rowsBy, rowBy, changeBy, eventBy, busyUntil, resting, grantBy, restBy, handledBy, stepDue, stepBy, stepAnswer, eventLeft, performBy}
 use Rattle.cells.specs.Run.{madeBy}
 use Rattle.cells.specs.Looks.{walkByLooks, nearestByLooks, walkedLooks, handledLooks, stepDueLooks, stepLooks, looksBy}
-use Rattle.cells.specs.Written.{mendWrites, mendNodeWrites, putRequestWrites, grantNodeWrites, clearWrites, showRequestWrites, showNodesWrites, showHubWrites, showHubsWrites, buildWrites, advanceWrites, changeWrites, eventWrites, grantWrites, handledWrites, stepDueWrites, stepWrites, callWrites}
+use Rattle.cells.specs.Written.{mendWrites, mendNodeWrites, putRequestWrites, grantNodeWrites, clearWrites, showNodesWrites, showHubWrites, showHubsWrites, buildWrites, advanceWrites, changeWrites, eventWrites, grantWrites, handledWrites, stepDueWrites, stepWrites, callWrites}
 use Rattle.refinement.specs.WrittenRuns.{each, figures, AsWorked}
 
 pub as-worked : AsWorked
@@ -31,6 +31,6 @@ unfolding
     downBy takeBy upBy handUpBy foundBy lookBy afterLook walkBy nearerBy nearestBy walked settled chooseBy
     rowsBy rowBy changeBy eventBy busyUntil resting grantBy restBy handledBy stepDue stepBy stepAnswer eventLeft performBy madeBy
     walkByLooks nearestByLooks walkedLooks handledLooks stepDueLooks stepLooks looksBy
-    mendWrites mendNodeWrites putRequestWrites grantNodeWrites clearWrites showRequestWrites showNodesWrites showHubWrites showHubsWrites buildWrites
+    mendWrites mendNodeWrites putRequestWrites grantNodeWrites clearWrites showNodesWrites showHubWrites showHubsWrites buildWrites
     advanceWrites changeWrites eventWrites grantWrites handledWrites stepDueWrites stepWrites callWrites each figures
 as-worked = refl
