@@ -9,4 +9,5 @@ pub mod Turns
 pub mod Fresh
 pub mod Calls
 pub mod Run
+pub mod Looks
 pub mod Written

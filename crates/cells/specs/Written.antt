@@ -19,8 +19,8 @@ use Rattle.cells.specs.declared.Sought.the-variants as seek
 use Rattle.cells.specs.Layout.{standing-cell, maskCell, requestCell, grantedCell, ifHub, ifNode, requestCode}
 use Rattle.cells.specs.Decode.{planIn}
 use Rattle.cells.specs.Masks.{countsAt, maskWith, alike, mend, standingAfter, grantedMore}
-use Rattle.cells.specs.Build.{clearMasks, showRequest, hubsIn}
-use Rattle.cells.specs.Frames.{startNodes, newFrame, advanceBy}
+use Rattle.cells.specs.Build.{hubsIn}
+use Rattle.cells.specs.Frames.{newFrame, advanceBy}
 use Rattle.cells.specs.Instants.{dueBy, soughtBy}
 use Rattle.cells.specs.Turns.{Turned, chooseBy}
 use Rattle.cells.specs.Calls.{rowBy}
@@ -72,13 +72,10 @@ clearWrites (suc n) = clearWrites n + 2
 abbrev pub showPortWrites : ℕ → ℕ
 showPortWrites g = ifHub g 1 0
 
--- beside `showRequest` and `showNodes`: one mask for a node whose request stands
-unfoldable pub showRequestWrites : List ℕ → ℕ → List ℕ → ℕ
-showRequestWrites P k s = if ltb (getD s (requestCell k) 0) 65536 then 0 else showPortWrites (plan.hubOfNode P k)
-
-unfoldable pub showNodesWrites : List ℕ → ℕ → List ℕ → ℕ
-showNodesWrites P zero s = 0
-showNodesWrites P (suc n) s = showNodesWrites P n (showRequest P (suc n) s) + showRequestWrites P (suc n) s
+-- beside `showNodes`: one mask for each node
+unfoldable pub showNodesWrites : List ℕ → ℕ → ℕ
+showNodesWrites P zero = 0
+showNodesWrites P (suc n) = showNodesWrites P n + showPortWrites (plan.hubOfNode P (suc n))
 
 -- beside `showHub` and `showHubs`: both masks of a hub's parent
 unfoldable pub showHubWrites : List ℕ → ℕ → ℕ
@@ -89,15 +86,14 @@ showHubsWrites P zero = 0
 showHubsWrites P (suc n) = showHubsWrites P n + showHubWrites P (suc n)
 
 -- beside `buildMasks`
-unfoldable pub buildWrites : List ℕ → List ℕ → ℕ
-buildWrites P s =
-    showHubsWrites P (hubsIn P) + showNodesWrites P (planIn P .nodes) (clearMasks (hubsIn P) s) + clearWrites (hubsIn P)
+unfoldable pub buildWrites : List ℕ → ℕ
+buildWrites P = showHubsWrites P (hubsIn P) + showNodesWrites P (planIn P .nodes) + clearWrites (hubsIn P)
 
 -- ---- Frames
 
 -- beside `startFrame` and `advanceBy`: only a frame's start writes
 unfoldable pub advanceWrites : List ℕ → ℕ → List ℕ → ℕ
-advanceWrites P t s = if newFrame (planIn P) t s then buildWrites P (startNodes (planIn P .nodes) s) else 0
+advanceWrites P t s = if newFrame (planIn P) t s then buildWrites P else 0
 
 -- ---- Calls
 

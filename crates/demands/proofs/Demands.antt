@@ -31,6 +31,7 @@ use Rattle.refinement.specs.Kept.{Ready}
 use Rattle.refinement.proofs.ReadyPlan.{ready, plan-in}
 use Rattle.refinement.proofs.Performed.{Agrees, performed}
 use Rattle.refinement.proofs.Runs.{RunTied, run-tied}
+use Rattle.refinement.proofs.Looked.Calls.{same-looks}
 use Rattle.refinement.proofs.Written.Told.{Tells, tells}
 use Rattle.refinement.proofs.Written.Calls.{few-writes}
 use Rattle.demands.specs.Demands.{Calls, callsOf, Demands}
@@ -83,6 +84,7 @@ module _ (P : List ℕ) (R : Ready P) (past : List Entry) (m : Made P past (made
         few-moves = subst (Every (λ a. movesOf a ≤ 4 * (levels p - 1))) (sym same) (kept .few-moves);
         travels = subst (Travels p) (sym same) (kept .travels);
         few-looks = subst (FewLooks p) (sym same) (kept .few-looks);
+        looks-are = same-looks P R s (tied .kept) fine;
         few-writes = few-writes P R s (λ call.
             subst₂ (Tells p call) (sym (agrees call .answer)) (left-clock call)
             (tells p (R .drawn .figures) (control p) (control-follows p (R .drawn)) (hubOf p s) fine call));

@@ -20,4 +20,5 @@ pub mod Walked
 pub mod Rested
 pub mod Performed
 pub mod Runs
+pub mod Looked
 pub mod Written

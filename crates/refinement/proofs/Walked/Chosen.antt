@@ -72,7 +72,7 @@ unfolding controlOf
 climb-tied P R s K = climb-of P R (getD s holder-cell 0) (K .holder)
 
 -- the class sought is the latest grant's
-class-tied : (x : ℕ) (isHigh : Bool) → x ≤ 1 → eqb x (digit isHigh) ≡ same (classOf isHigh) (classOf (eqb x 1))
+pub class-tied : (x : ℕ) (isHigh : Bool) → x ≤ 1 → eqb x (digit isHigh) ≡ same (classOf isHigh) (classOf (eqb x 1))
 class-tied x true l = go (which (eqb x 1))
   where
     go : Which (eqb x 1) → eqb x 1 ≡ same (classOf true) (classOf (eqb x 1))

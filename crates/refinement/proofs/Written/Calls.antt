@@ -1,7 +1,6 @@
 -- Of one call on cells of a plan that is taken: within a frame it writes at most 2 × L mask cells, and over a frame's start few more.
 use Prim.Native.Nat.{ℕ, _+_, _≤_}
-use mathlib.Core.Path.{_≡_, refl}
-use mathlib.Core.Bool.{Bool, true, false}
+use mathlib.Core.Path.{_≡_}
 use mathlib.Core.List.{List}
 use native.Mathlib.Omega.{arith}
 use lib.Dec.{ltb, eqb}
@@ -16,7 +15,7 @@ use Rattle.cells.specs.declared.Sought.{Sought}
 use Rattle.cells.specs.declared.Sought.the-variants as seek
 use Rattle.cells.specs.Layout.{clock-cell, timeAt, requestCode}
 use Rattle.cells.specs.Decode.{planIn}
-use Rattle.cells.specs.Frames.{startNodes, newFrame, advanceBy}
+use Rattle.cells.specs.Frames.{newFrame, advanceBy}
 use Rattle.cells.specs.Instants.{dueBy, soughtBy}
 use Rattle.cells.specs.Turns.{chooseBy}
 use Rattle.cells.specs.Calls.{rowBy, grantBy, restBy, handledBy, stepDue, stepBy, eventAnswer, stepAnswer, eventLeft, performBy}
@@ -45,7 +44,7 @@ module _ (P : List ℕ) (R : Ready P) (s : List ℕ) where
   start-few t = go (which (newFrame p t s))
     where
       go : Which (newFrame p t s) → advanceWrites P t s ≤ mostAtStart p
-      go (yes′ e) = rw e (build-few P R (startNodes (p .nodes) s))
+      go (yes′ e) = rw e (build-few P R)
       go (no′ e) = rw e (omega arith)
 
   no-start : (t : ℕ) → frameOf p t ≡ frameIn p s → advanceWrites P t s ≡ 0

@@ -11,7 +11,7 @@ use borrow.Author.Tests.{eq-eqb, eqb-true, ltb-false}
 use Rattle.rules.specs.Choice.{if_then_else_, put, sum}
 use Rattle.rules.specs.Plan.{most-hubs}
 use Rattle.rules.specs.Drawn.{Within}
-use Rattle.rules.proofs.Laws.Passes.{Which, which, yes′, no′, sum-mono, sum-put, put-same, put-other}
+use Rattle.rules.proofs.Laws.Passes.{Which, which, yes′, no′, sum-mono, sum-put}
 use Rattle.rules.proofs.Laws.Sums.{Same, it, other, same-or-not}
 use Rattle.ports.specs.Mask.{digit}
 use Rattle.cells.specs.Layout.{maskCell, ifHub, ifNode}

@@ -1,6 +1,5 @@
 -- No mask changes that isn't counted: each count is at least the masks that its definition changes, for every content of both tables.
 use Prim.Native.Nat.{ℕ, zero, suc, _+_, _-_, _/_, _≤_}
-use mathlib.Core.Path.{_≡_, refl}
 use mathlib.Core.Bool.{Bool, true, false}
 use mathlib.Core.List.{List}
 use native.Mathlib.Omega.{arith}
@@ -27,15 +26,15 @@ use Rattle.cells.specs.declared.Due.{Due}
 use Rattle.cells.specs.declared.Due.the-variants.{At, Never}
 use Rattle.cells.specs.declared.Sought.{Sought}
 use Rattle.cells.specs.declared.Sought.the-variants as seek
-use Rattle.cells.specs.Layout.{clock-cell, end-cell, busy-cell, holder-cell, class-cell, standing-cell, maskCell, pointerCell, requestCell, forceCell, latestCell, grantedCell, ifHub, putTime, two-32, requestCode, shareCode, unmarkedCode, markedCode}
+use Rattle.cells.specs.Layout.{clock-cell, end-cell, busy-cell, holder-cell, class-cell, standing-cell, maskCell, pointerCell, requestCell, forceCell, latestCell, grantedCell, putTime, requestCode, shareCode, unmarkedCode, markedCode}
 use Rattle.cells.specs.Decode.{planIn}
-use Rattle.cells.specs.Masks.{countsAt, maskWith, alike, mend, mendNode, standingAfter, putRequest, grantedMore, grantNode}
+use Rattle.cells.specs.Masks.{countsAt, maskWith, alike, mend, mendNode, stands, standingAfter, putRequest, grantedMore, grantNode}
 use Rattle.cells.specs.Build.{clearMasks, showPort, showRequest, showNodes, summary, showHub, showHubs, hubsIn, buildMasks}
 use Rattle.cells.specs.Frames.{startCells, startNodes, startFrame, newFrame, advanceBy}
 use Rattle.cells.specs.Instants.{dueBy, soughtBy}
 use Rattle.cells.specs.Turns.{Looked, Turned, downBy, takeBy, upBy, handUpBy, foundBy, lookBy, afterLook, walkBy, turningBy, climbBy, walked, settled, chooseBy}
 use Rattle.cells.specs.Calls.{rowBy, changeBy, eventBy, busyUntil, resting, grantBy, restBy, handledBy, stepDue, stepBy, eventLeft, performBy}
-use Rattle.cells.specs.Written.{mendWrites, mendNodeWrites, putRequestWrites, grantNodeWrites, clearWrites, showPortWrites, showRequestWrites, showNodesWrites, showHubWrites, showHubsWrites, buildWrites, advanceWrites, changeWrites, eventWrites, grantWrites, handledWrites, stepDueWrites, stepWrites, callWrites}
+use Rattle.cells.specs.Written.{mendWrites, mendNodeWrites, putRequestWrites, grantNodeWrites, clearWrites, showPortWrites, showNodesWrites, showHubWrites, showHubsWrites, buildWrites, advanceWrites, changeWrites, eventWrites, grantWrites, handledWrites, stepDueWrites, stepWrites, callWrites}
 use Rattle.refinement.proofs.Same.{low-no-mask, node-no-mask, pointer-no-mask}
 use Rattle.refinement.proofs.Written.Changed.{Wrote, wrote-stay, wrote-off, wrote-then, wrote-behind, wrote-before, wrote-one, wrote-if, wrote-hub, wrote-node}
 
@@ -104,13 +103,13 @@ module _ (P : List ℕ) where
   port-counted isHigh g q b s =
       wrote-hub g (λ w. wrote-one isHigh g (maskOf (withPort (shows (getD s (maskCell isHigh g) 0)) q b)) s w)
 
-  shown-counted : (k : ℕ) (s : List ℕ) → Wrote (showRequestWrites P k s) s (showRequest P k s)
-  unfolding showRequest showRequestWrites
+  shown-counted : (k : ℕ) (s : List ℕ) → Wrote (showPortWrites (plan.hubOfNode P k)) s (showRequest P k s)
+  unfolding showRequest
   shown-counted k s =
       let x = getD s (requestCell k) 0 in
-      wrote-if (ltb x 65536) wrote-stay (port-counted (leb 131072 x) (plan.hubOfNode P k) (plan.portOfNode P k) true s)
+      port-counted (leb 131072 x) (plan.hubOfNode P k) (plan.portOfNode P k) (stands x) s
 
-  nodes-counted : (n : ℕ) (s : List ℕ) → Wrote (showNodesWrites P n s) s (showNodes P n s)
+  nodes-counted : (n : ℕ) (s : List ℕ) → Wrote (showNodesWrites P n) s (showNodes P n s)
   unfolding showNodes showNodesWrites
   nodes-counted zero s = wrote-stay
   nodes-counted (suc n) s = wrote-then (shown-counted (suc n) s) (nodes-counted n (showRequest P (suc n) s))
@@ -128,7 +127,7 @@ module _ (P : List ℕ) where
   hubs-counted zero s = wrote-stay
   hubs-counted (suc n) s = wrote-then (hub-counted (suc n) s) (hubs-counted n (showHub P (suc n) s))
 
-  build-counted : (s : List ℕ) → Wrote (buildWrites P s) s (buildMasks P s)
+  build-counted : (s : List ℕ) → Wrote (buildWrites P) s (buildMasks P s)
   unfolding buildMasks buildWrites
   build-counted s =
       let cleared = clearMasks (hubsIn P) s in

@@ -23,8 +23,8 @@ use Rattle.plan.specs.Tables.{planOf}
 use Rattle.cells.specs.Layout.{standing-cell, maskCell, requestCell, grantedCell}
 use Rattle.cells.specs.Decode.{planIn}
 use Rattle.cells.specs.Masks.{countsAt, maskWith, alike, mend, standingAfter, grantedMore}
-use Rattle.cells.specs.Build.{clearMasks, showRequest, hubsIn}
-use Rattle.cells.specs.Written.{mendWrites, mendNodeWrites, putRequestWrites, grantNodeWrites, clearWrites, showPortWrites, showRequestWrites, showNodesWrites, showHubWrites, showHubsWrites, buildWrites}
+use Rattle.cells.specs.Build.{hubsIn}
+use Rattle.cells.specs.Written.{mendWrites, mendNodeWrites, putRequestWrites, grantNodeWrites, clearWrites, showPortWrites, showNodesWrites, showHubWrites, showHubsWrites, buildWrites}
 use Rattle.refinement.specs.Kept.{Ready}
 use Rattle.refinement.specs.Written.{mostInFrame, mostAtStart}
 
@@ -120,18 +120,10 @@ module _ (P : List ℕ) (R : Ready P) where
   clear-is zero = refl
   clear-is (suc n) = omega (arith, clear-is n)
 
-  shown-few : (k : ℕ) (s : List ℕ) → showRequestWrites P k s ≤ 1
-  unfolding showRequestWrites
-  shown-few k s = go (which (ltb (getD s (requestCell k) 0) 65536))
-    where
-      go : Which (ltb (getD s (requestCell k) 0) 65536) → showRequestWrites P k s ≤ 1
-      go (yes′ e) = rw e (omega arith)
-      go (no′ e) = rw e (port-few (plan.hubOfNode P k))
-
-  nodes-few : (n : ℕ) (s : List ℕ) → showNodesWrites P n s ≤ n
+  nodes-few : (n : ℕ) → showNodesWrites P n ≤ n
   unfolding showNodesWrites
-  nodes-few zero s = omega arith
-  nodes-few (suc n) s = omega (arith, nodes-few n (showRequest P (suc n) s), shown-few (suc n) s)
+  nodes-few zero = omega arith
+  nodes-few (suc n) = omega (arith, nodes-few n, port-few (plan.hubOfNode P (suc n)))
 
   -- the root has no parent
   hubs-few : (n : ℕ) → showHubsWrites P n ≤ 2 * (n - 1)
@@ -140,13 +132,6 @@ module _ (P : List ℕ) (R : Ready P) where
   hubs-few (suc zero) = rw (R .root-parent) (omega arith)
   hubs-few (suc (suc n)) = omega (arith, hubs-few (suc n), port-few (getD P (plan.parentCell (suc (suc n))) 0))
 
-  pub build-few : (s : List ℕ) → buildWrites P s ≤ mostAtStart p
+  pub build-few : buildWrites P ≤ mostAtStart p
   unfolding buildWrites
-  build-few s =
-      omega (
-        arith,
-        min-le-left (p .hubs) most-hubs,
-        hubs-few (hubsIn P),
-        nodes-few (p .nodes) (clearMasks (hubsIn P) s),
-        clear-is (hubsIn P),
-      )
+  build-few = omega (arith, min-le-left (p .hubs) most-hubs, hubs-few (hubsIn P), nodes-few (p .nodes), clear-is (hubsIn P))

@@ -1,8 +1,8 @@
 -- Of every list of calls: the looks of each call are at most 4 × L - 1, and 3 × L - 1 in a grant of the class of the latest.
 use Prim.Native.Nat.{ℕ, zero, suc, _+_, _-_, _*_, _≤_}
-use mathlib.Core.Path.{_≡_, refl, sym, ap, subst}
+use mathlib.Core.Path.{_≡_, refl, sym, subst}
 use mathlib.Core.Bool.{Bool, true}
-use mathlib.Core.List.{List, _∷_, _++_}
+use mathlib.Core.List.{List}
 use native.Mathlib.Omega.{arith}
 use lib.Dec.{eqb}
 use borrow.Author.Tests.{eqb-true, eqb-false}
@@ -14,7 +14,7 @@ use Rattle.rules.specs.Core.{advance, countsIn}
 use Rattle.rules.specs.Machine.{Hub, Outcome, perform}
 use Rattle.rules.specs.Flat.{Pointers, flat}
 use Rattle.rules.specs.Control.{Control, handTo, walk, most-looks, turning, chooseBy, control}
-use Rattle.rules.specs.Run.{Entry, made}
+use Rattle.rules.specs.Run.{made}
 use Rattle.rules.specs.Agree.{movesOf}
 use Rattle.rules.specs.Travel.{walkReturns, chooseReturns, callReturns, grantsIn}
 use Rattle.rules.specs.Looks.{walkLooks, nearestLooks, chooseLooks, callLooks, mostInWalk, mostInCall, PlaceOf, there, looksAt, sameClass, FewLooks}

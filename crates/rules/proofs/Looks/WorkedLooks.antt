@@ -1,5 +1,5 @@
 -- The worked lists, by one computation: a lesser bound would be passed by each of them.
-use mathlib.Core.Path.{_≡_, refl}
+use mathlib.Core.Path.{refl}
 use Rattle.rules.specs.Choice.{any, sum, first}
 use Rattle.rules.specs.Plan.{deepest}
 use Rattle.rules.specs.Core.{advance, countsIn, counts, held, due, sought}
