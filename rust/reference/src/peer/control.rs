@@ -82,8 +82,16 @@ impl Peer {
             self.latest = class;
             moves = self.up_to(self.nearest(class));
         }
+        let (node, walked) = self.walk(class);
+        (node, moves + walked)
+    }
+
+    /// Rules 3 and 4, from the holder to the node.
+    #[inline]
+    fn walk(&mut self, class: usize) -> (usize, u64) {
         let (shown, pointers) = (at_ref(&self.shown, class), at_mut(&mut self.pointers, class));
         let mut hub = self.holder;
+        let mut moves = 0;
         loop {
             let pointer = at(pointers, hub);
             let left = at(shown, hub) & pointer as u32;
@@ -99,18 +107,17 @@ impl Peer {
                 continue;
             }
             let bit = left & left.wrapping_neg();
-            let port = at(&self.ports, hub * MOST_PORTS + left.trailing_zeros() as usize);
-            if port < LOWER_HUB {
+            let below = usize::from(at(&self.ports, hub * MOST_PORTS + left.trailing_zeros() as usize));
+            if bit & at(&self.lower, hub) == 0 {
                 *at_mut(pointers, hub) = behind(bit);
                 self.holder = hub;
-                return (usize::from(port), moves);
+                return (below, moves);
             }
-            let lower = usize::from(port - LOWER_HUB);
             if pointer != marked(bit) {
                 *at_mut(pointers, hub) = marked(bit);
-                *at_mut(pointers, lower) = FIRST;
+                *at_mut(pointers, below) = FIRST;
             }
-            hub = lower;
+            hub = below;
             moves += 1;
         }
     }

@@ -6,7 +6,7 @@ use crate::plan::LONGEST_PACKET;
 
 impl Peer {
     /// `(normal t k b)`
-    #[inline]
+    #[inline(never)]
     pub fn normal(&mut self, t: u64, k: u64, b: u64) -> Result<(), Row> {
         self.rows_11_12(t)?;
         let k = self.row_13(k)?;
@@ -25,7 +25,7 @@ impl Peer {
     }
 
     /// `(high t k b)`
-    #[inline]
+    #[inline(never)]
     pub fn high(&mut self, t: u64, k: u64, b: u64) -> Result<(), Row> {
         self.rows_11_12(t)?;
         let k = self.row_13(k)?;
@@ -51,7 +51,7 @@ impl Peer {
     }
 
     /// `(off t k)`
-    #[inline]
+    #[inline(never)]
     pub fn off(&mut self, t: u64, k: u64) -> Result<(), Row> {
         self.rows_11_12(t)?;
         let k = self.row_13(k)?;
@@ -69,7 +69,7 @@ impl Peer {
     }
 
     /// `(reserve t k n b)`
-    #[inline]
+    #[inline(never)]
     pub fn reserve(&mut self, t: u64, k: u64, n: u64, b: u64) -> Result<(), Row> {
         self.rows_11_12(t)?;
         let k = self.row_13(k)?;
@@ -96,7 +96,7 @@ impl Peer {
     }
 
     /// `(until t)`
-    #[inline]
+    #[inline(never)]
     pub fn until(&mut self, t: u64) -> Result<(), Row> {
         self.rows_11_12(t)?;
         self.move_clock(t);

@@ -24,8 +24,7 @@ pub fn log_onto(text: &[u8], log: &mut Vec<u8>) {
         }
     };
     let mut peer = Peer::new(&taken.plan);
-    log.extend_from_slice(b"(nodes ");
-    log.extend_from_slice(peer.nodes.to_string().as_bytes());
+    write::form(log, b"(nodes", [peer.nodes]);
     write::line(log, b" hubs", [u64::from(peer.hubs)]);
     events(&text[taken.at..], taken.line, &mut peer, log);
 }

@@ -8,6 +8,9 @@
 //! anything. A call allocates nothing. Here nodes, hubs and ports are numbered
 //! from 0, and the root is hub 0.
 //!
+//! The six calls are functions of a library, as the archive's are, so none of
+//! them is put into its caller's loop.
+//!
 //! - `tables`: what is kept, made from a plan, and how it is indexed.
 //! - `events`, `steps`: the six calls.
 //! - `control`: masks mended, and the walk of control.

@@ -20,7 +20,7 @@ impl Peer {
     }
 
     /// A step with bound t.
-    #[inline]
+    #[inline(never)]
     pub fn step(&mut self, t: u64) -> Answer {
         if t > LAST_TIME || t < self.clock {
             return Answer::Refused(11);
@@ -30,14 +30,12 @@ impl Peer {
             return Answer::Quiet;
         }
         self.move_clock(time);
-        if self.shown[HIGH][ROOT] != 0 {
-            self.grant(time, HIGH)
-        } else if self.shown[NORMAL][ROOT] != 0 {
-            self.grant(time, NORMAL)
-        } else {
+        let (normal, high) = (self.shown[NORMAL][ROOT], self.shown[HIGH][ROOT]);
+        if normal | high == 0 {
             self.busy = false;
-            Answer::Rest { time, moves: self.up_to(ROOT) }
+            return Answer::Rest { time, moves: self.up_to(ROOT) };
         }
+        self.grant(time, usize::from(high != 0))
     }
 
     #[inline]

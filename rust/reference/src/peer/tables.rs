@@ -17,9 +17,6 @@ pub const NONE: u8 = 0;
 pub const STANDS_NORMAL: u8 = 1;
 pub const STANDS_HIGH: u8 = 2;
 
-/// A port's entry is a node's number, or this and a hub's number.
-pub const LOWER_HUB: u16 = 256;
-
 /// A pointer is the set of ports at or after it, and the mark above these bits.
 pub const MARK: u64 = 1 << 32;
 /// Port 1, unmarked.
@@ -90,8 +87,10 @@ pub struct Peer {
     pub(super) levels: [u8; MOST_HUBS],
     pub(super) runs: [Run; MOST_RUNS],
     pub(super) node: [Node; MOST_NODES],
-    /// Port q of hub h at 32 × h + q.
-    pub(super) ports: [u16; MOST_HUBS * MOST_PORTS],
+    /// By hub: the ports that have a hub.
+    pub(super) lower: [u32; MOST_HUBS],
+    /// Port q of hub h at 32 × h + q: a node's or a hub's number.
+    pub(super) ports: [u8; MOST_HUBS * MOST_PORTS],
 }
 
 impl Peer {
@@ -119,6 +118,7 @@ impl Peer {
             levels: [0; MOST_HUBS],
             runs: [Run::default(); MOST_RUNS],
             node: [Node::default(); MOST_NODES],
+            lower: [0; MOST_HUBS],
             ports: [0; MOST_HUBS * MOST_PORTS],
         };
         for h in 0..plan.hubs.len() {
@@ -138,11 +138,14 @@ impl Peer {
             self.ports[h * MOST_PORTS + q] = match port {
                 Port::Node(k) => {
                     self.node[k - 1] = Node { hub: h as u8, bit: 1 << q, ..Node::default() };
-                    k as u16 - 1
+                    (k - 1) as u8
                 }
                 // No mask ever has its bit.
                 Port::Empty => 0,
-                Port::Hub(lower) => LOWER_HUB + lower as u16 - 1,
+                Port::Hub(lower) => {
+                    self.lower[h] |= 1 << q;
+                    (lower - 1) as u8
+                }
             };
         }
     }

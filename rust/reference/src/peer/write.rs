@@ -1,7 +1,8 @@
 //! Log lines, written into room that is made once a line.
 
-/// No line of a log is longer, its LF included.
-pub const LONGEST: usize = 96;
+/// The room for a form: no word has more than 8 bytes, no form more than 5
+/// numbers, and no number more than 20 digits with a space before them.
+const ROOM: usize = 8 + 5 * 21 + 2;
 
 /// The two digits of 0 to 99.
 static PAIRS: [[u8; 2]; 100] = pairs();
@@ -19,14 +20,21 @@ const fn pairs() -> [[u8; 2]; 100] {
 /// A log line, ended by its LF: the word, then each number behind a space.
 #[inline]
 pub fn line<const W: usize, const N: usize>(log: &mut Vec<u8>, word: &[u8; W], numbers: [u64; N]) {
-    log.reserve(LONGEST);
-    let mut at = log.len();
-    at = bytes(log, at, word);
+    form(log, word, numbers);
+    let at = bytes(log, log.len(), b")\n");
+    end(log, at);
+}
+
+/// The same without the bracket and the LF, for which there is room.
+#[inline]
+pub fn form<const W: usize, const N: usize>(log: &mut Vec<u8>, word: &[u8; W], numbers: [u64; N]) {
+    const { assert!(W <= 8 && N <= 5) };
+    log.reserve(ROOM);
+    let mut at = bytes(log, log.len(), word);
     for number in numbers {
         at = bytes(log, at, b" ");
         at = digits(log, at, number);
     }
-    at = bytes(log, at, b")\n");
     end(log, at);
 }
 

@@ -102,8 +102,12 @@ fn damage(random: &mut Random, text: &mut Vec<u8>) {
             let at = random.place(text.len());
             text[at] = random.one_of(b"()0 19\n\r\t\0nh\xff");
         }
-        // A byte more, or less.
-        2 => text.insert(random.place(text.len()), random.one_of(b"()0 19\n\r")),
+        // A byte more, or many, so that a line is too long; or a byte less.
+        2 => {
+            let (at, byte) = (random.place(text.len()), random.one_of(b"()0 19\n\r"));
+            let many = random.one_of(&[1, 1, 1, 80, 300]);
+            text.splice(at..at, std::iter::repeat_n(byte, many));
+        }
         3 => {
             text.remove(random.place(text.len()));
         }
