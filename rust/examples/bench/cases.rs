@@ -35,13 +35,12 @@ pub fn case(&(nodes, levels): &(usize, usize)) -> Case {
 }
 
 /// All cases in turn in each round; then the longest calls of each.
-pub fn measure(clock: &Clock, cases: &[Case], rounds: usize, effort: Effort) -> Vec<Row> {
+pub fn measure(clock: &Clock, cases: &[Case], effort: Effort) -> Vec<Row> {
     let ready: Vec<[Hubs; 3]> = cases.iter().map(hubs).collect();
     let mut buffers = Buffers::new();
     let mut calls: Vec<[Rounds; 3]> = cases.iter().map(|_| Default::default()).collect();
     let mut logs: Vec<Rounds> = cases.iter().map(|_| Rounds::default()).collect();
-    for round in 0..rounds {
-        eprint!("\rround {} of {rounds} ", round + 1);
+    for round in 0..effort.rounds {
         for (place, case) in cases.iter().enumerate() {
             for (load, hubs) in ready[place].iter().enumerate() {
                 calls[place][load].push(time_load(hubs, &case.loads[load], round));
@@ -52,7 +51,6 @@ pub fn measure(clock: &Clock, cases: &[Case], rounds: usize, effort: Effort) -> 
     }
     let found = cases.iter().zip(ready).zip(calls.into_iter().zip(logs));
     let rows = found.map(|((case, ready), (calls, log))| {
-        eprint!("\rsingle calls, {} nodes, {} levels ", case.nodes, case.levels);
         let lists: Vec<_> = ready.iter().zip(&case.loads).collect();
         Row { calls, log, worst: longest(clock, &case.plan, &lists, effort) }
     });

@@ -9,9 +9,11 @@ use reference::hub::Call;
 use reference::plan::Plan;
 use std::hint::black_box;
 
-/// How many calls of each load are measured, how often each in one pass, and in how many passes.
+/// How many rounds a run has; how many calls of each load are measured alone, how often each in one pass, and in
+/// how many passes.
 #[derive(Clone, Copy)]
 pub struct Effort {
+    pub rounds: usize,
     pub calls: usize,
     pub repeats: usize,
     pub passes: usize,

@@ -9,8 +9,9 @@
 //! - `cases`: the figures of each plan.
 //! - `page`, `goals`, `tables`: what is written.
 //!
-//! `--quick` behind `--` takes less than a minute and leaves out how the cost grows; a number is how many rounds
-//! are made. What it does meanwhile goes to standard error.
+//! It makes five runs, of which the last gives the tables. `--quick` behind `--` makes one, takes less than ten
+//! seconds and leaves out how the cost grows; a number is how many rounds a run has. What it does meanwhile goes
+//! to standard error.
 
 #[path = "../../tests/archive/mod.rs"]
 mod archive;
@@ -28,7 +29,7 @@ mod tables;
 
 use cases::{case, measure, Case, Row};
 use clock::Clock;
-use goals::goals;
+use goals::{goal_table, goals};
 use longest::{longest, Effort};
 use page::{head, method};
 use plans::deepest;
@@ -41,29 +42,34 @@ const GROWTH: [(usize, usize); 8] = [(1, 1), (2, 1), (8, 1), (16, 1), (64, 2), (
 fn main() {
     let words: Vec<String> = std::env::args().skip(1).collect();
     let quick = words.iter().any(|word| word == "--quick");
-    let rounds = words.iter().find_map(|word| word.parse().ok()).unwrap_or(if quick { 31 } else { 201 });
-    let (effort, growth) = if quick {
-        (Effort { calls: 300, repeats: 40, passes: 2 }, &GROWTH[..0])
+    let (runs, effort, growth) = if quick {
+        (1, Effort { rounds: 61, calls: 300, repeats: 40, passes: 3 }, &GROWTH[..0])
     } else {
-        (Effort { calls: 1_000, repeats: 100, passes: 5 }, &GROWTH[..])
+        (5, Effort { rounds: 201, calls: 1_000, repeats: 100, passes: 5 }, &GROWTH[..])
     };
+    let rounds = words.iter().find_map(|word| word.parse().ok()).unwrap_or(effort.rounds);
+    let effort = Effort { rounds, ..effort };
     let clock = Clock::new();
     let cases: Vec<Case> = SHAPES.iter().chain(growth).map(case).collect();
-    let rows = measure(&clock, &cases, rounds, effort);
-    eprintln!("\rthe deepest plan               ");
-    let deepest = longest(&clock, &deepest(), &[], effort);
-    let all: Vec<(&Case, &Row)> = cases.iter().zip(&rows).collect();
-    let main = &all[..SHAPES.len()];
-
+    let deepest_plan = deepest();
+    let mut all_goals = Vec::new();
     let mut page = String::new();
-    head(&mut page, main, &deepest);
-    goals(&mut page, main, &deepest);
-    method(&mut page, rounds, effort);
-    call_table(&mut page, main);
-    longest_table(&mut page, main, &deepest);
-    log_table(&mut page, main);
-    if !quick {
-        growth_tables(&mut page, all.clone());
+    for run in 1..=runs {
+        eprintln!("run {run} of {runs}");
+        let rows = measure(&clock, &cases, effort);
+        let deepest = longest(&clock, &deepest_plan, &[], effort);
+        let all: Vec<(&Case, &Row)> = cases.iter().zip(&rows).collect();
+        let main = &all[..SHAPES.len()];
+        all_goals.push(goals(main, &deepest));
+
+        page.clear();
+        head(&mut page, main, &deepest);
+        goal_table(&mut page, &all_goals);
+        method(&mut page, effort);
+        call_table(&mut page, main);
+        longest_table(&mut page, main, &deepest);
+        log_table(&mut page, main);
+        growth_tables(&mut page, &all);
     }
-    print!("{page}");
+    println!("{}", page.trim_end());
 }

@@ -40,39 +40,41 @@ pub fn head(page: &mut String, rows: &[(&Case, &Row)], deepest: &Worst) {
     let start = worst().map(|worst| worst.step_at_start[ARCHIVE]).fold(0.0, f64::max);
     let within = worst().map(|worst| worst.step[ARCHIVE]).fold(0.0, f64::max);
     let (_, largest) = rows[rows.len() - 1];
-    let calls = largest.calls.each_ref().map(|rounds| rounds.figure(ARCHIVE));
-    let call = calls.iter().copied().fold(0.0, f64::max);
+    let call = largest.calls.iter().map(|rounds| rounds.figure(ARCHIVE)).fold(0.0, f64::max);
     writeln!(
         page,
         "# Speed\n\n\
-         The shortest packet holds the line for 5,120 ns; the hub names the next turn in at most {} ns, and in {} ns where a frame starts \
-         ({:.0} % of that packet), so no line waits for its hub. \
-         In the largest hall, 256 nodes in five levels, a call takes {call:.0} ns on average: one core would serve more than a hundred such lines. \
-         A log of 65,000 bytes of plan and events takes {} µs, where a good engineer's hub without proofs takes {}.\n",
+         The shortest packet holds the line for 5,120 ns; the hub names the next turn in at most {} ns, or {} ns ({:.0} % of that packet) where a frame starts. \
+         In the largest hall, 256 nodes in five levels, a call takes {call:.0} ns, and a packet needs three at most (asked, granted, and the line rests), so one core keeps up with \
+         {} such lines even if all packets are the shortest. \
+         A text of 65,000 bytes becomes its log in {} µs, where a good engineer's hub without proofs takes {}.\n",
         commas(within),
         commas(start),
         start / SHORTEST * 100.0,
+        commas((SHORTEST / (3.0 * call)).floor()),
         commas(largest.log.figure(ARCHIVE)),
         commas(largest.log.figure(PEER)),
     )
     .unwrap();
 }
 
-pub fn method(page: &mut String, rounds: usize, effort: Effort) {
+pub fn method(page: &mut String, effort: Effort) {
     writeln!(
         page,
         "## How it was measured\n\n\
          Written by `cargo run --release --example bench > ../docs/BENCHMARKS.md` in `rust/`, on {}, {}, {}, load {}.\n\n\
          The **peer** (`rust/reference/src/peer`) is a cascade hub written for speed without proofs: hub by hub by the rules in force, moves counted, masks kept with an \
-         early end, unchecked indexing. The **bit-set hub** (`fast.rs` there) is the floor: it has 256 bits a class, no tree and no moves. All get the same calls and answer alike.\n\n\
-         The hubs take turns in each of {rounds} rounds of {} calls, another one first each time. A time is the median over the rounds, a ratio the median of the ratios within a round. \
+         early end, unchecked indexing. The **bit-set hub** (`fast.rs` there) is the floor: it has 256 bits a class, no tree and no moves. All get the same calls and answer alike; archive and peer are called as functions of a library, \
+         the bit-set hub is put into the caller's loop.\n\n\
+         The hubs take turns in each of {} rounds of {} calls, another one first each time. A time is the median over the rounds, a ratio the median of the ratios within a round. \
          T is 1,000,000, O 1,000, D 13,000. Each second node has reserved two packets of 1,500 bits a frame and asks high, the others normal with 512 to 12,000 bits. \
          Under light load one node at a time asks, is granted, and the line rests (an event and two steps); under full load all ask all the time (a step and an event by turns), \
-         in its second form without reservations. Frame starts are included, and the tables are in the cache.\n",
+         in its second form without reservations. Frame starts are included, and tables and calls are in the cache.\n",
         output("date", &["-u", "+%Y-%m-%d %H:%M UTC"]),
         machine(),
         output("rustc", &["--version"]),
         output("cut", &["-d ", "-f1", "/proc/loadavg"]),
+        effort.rounds,
         commas(CALLS as f64)
     )
     .unwrap();

@@ -39,8 +39,9 @@ fn in_turn(round: usize) -> [usize; 3] {
     std::array::from_fn(|place| (place + round) % 3)
 }
 
-/// Nanoseconds a call of each hub, for a load.
+/// Nanoseconds a call of each hub, for a load. The calls are looked at before, so that no hub has to fetch them.
 pub fn time_load(ready: &Hubs, load: &Load, round: usize) -> [f64; 3] {
+    black_box(load.timed.iter().fold(0, |sum, call| call.time() ^ sum));
     let mut figures = [0.0; 3];
     for place in in_turn(round) {
         figures[place] = match place {

@@ -5,31 +5,37 @@ use crate::goals::name;
 use crate::hubs::{ARCHIVE, BIT_SETS, PEER};
 use crate::longest::Worst;
 use crate::page::commas;
+use crate::rounds::Rounds;
 use std::fmt::Write;
 
 pub const DEEPEST: &str = "256 nodes, all at level 5";
 
+/// The times of archive, peer and bit sets a call.
+fn three(rounds: &Rounds) -> String {
+    let [archive, peer, fast] = [ARCHIVE, PEER, BIT_SETS].map(|hub| rounds.figure(hub));
+    format!("{archive:.1} / {peer:.1} / {fast:.1}")
+}
+
+/// Their longest times.
+fn three_longest(longest: [f64; 3]) -> String {
+    longest.map(commas).join(" / ")
+}
+
 pub fn call_table(page: &mut String, rows: &[(&Case, &Row)]) {
     writeln!(
         page,
-        "## Calls\n\nNanoseconds a call.\n\n\
-         | Plan | Load | archive | peer | bit sets | archive ÷ peer | archive ÷ bit sets | peer ÷ bit sets |\n|---|---|---|---|---|---|---|---|"
+        "## Calls\n\nNanoseconds a call of archive / peer / bit sets, and the archive's in parts of the peer's.\n\n\
+         | Plan | {} |\n|---|{}",
+        LOADS.map(|load| format!("{load} | ÷ peer")).join(" | "),
+        "---|---|".repeat(LOADS.len())
     )
     .unwrap();
     for (case, row) in rows {
-        for (rounds, load) in row.calls.iter().zip(LOADS) {
-            let [archive, peer, fast] = [ARCHIVE, PEER, BIT_SETS].map(|hub| rounds.figure(hub));
-            let ratio = |one, other| rounds.ratio(one, other);
-            writeln!(
-                page,
-                "| {} | {load} | {archive:.1} | {peer:.1} | {fast:.1} | **{:.2}** | {:.2} | {:.2} |",
-                name(case),
-                ratio(ARCHIVE, PEER),
-                ratio(ARCHIVE, BIT_SETS),
-                ratio(PEER, BIT_SETS)
-            )
-            .unwrap();
-        }
+        let cells = row.calls.each_ref().map(|rounds| {
+            let ratio = rounds.ratio(ARCHIVE, PEER);
+            format!("{} | **{ratio:.2}**", three(rounds))
+        });
+        writeln!(page, "| {} | {} |", name(case), cells.join(" | ")).unwrap();
     }
     writeln!(page).unwrap();
 }
@@ -37,23 +43,23 @@ pub fn call_table(page: &mut String, rows: &[(&Case, &Row)]) {
 pub fn longest_table(page: &mut String, rows: &[(&Case, &Row)], deepest: &Worst) {
     writeln!(
         page,
-        "## The longest calls\n\nNanoseconds of archive / peer / bit sets, and the archive's in parts of the peer's and of the bit-set hub's. Events have reserves among them.\n\n\
-         | Plan | Step within a frame | ÷ peer | Step at a frame's start | ÷ peer | ÷ bit sets | Event within | Event at a start |\n|---|---|---|---|---|---|---|---|"
+        "## The longest calls\n\nNanoseconds of archive / peer / bit sets. Events have reserves among them.\n\n\
+         | Plan | Step within a frame | ÷ peer | Step at a frame's start | ÷ peer | ÷ bit sets | Event within | Event at a start |\n\
+         |---|---|---|---|---|---|---|---|"
     )
     .unwrap();
-    let three = |longest: [f64; 3]| longest.map(commas).join(" / ");
     let mut line = |name: &str, worst: &Worst| {
         let (step, start) = (worst.step, worst.step_at_start);
         writeln!(
             page,
             "| {name} | {} | **{:.2}** | {} | **{:.2}** | {:.2} | {} | {} |",
-            three(step),
+            three_longest(step),
             step[ARCHIVE] / step[PEER],
-            three(start),
+            three_longest(start),
             start[ARCHIVE] / start[PEER],
             start[ARCHIVE] / start[BIT_SETS],
-            three(worst.event),
-            three(worst.event_at_start)
+            three_longest(worst.event),
+            three_longest(worst.event_at_start)
         )
         .unwrap();
     };
@@ -68,7 +74,7 @@ pub fn log_table(page: &mut String, rows: &[(&Case, &Row)]) {
     writeln!(
         page,
         "## Whole logs\n\nMicroseconds of a text of 65,000 bytes under full load: the text is read, the hub run and the log written.\n\n\
-         | Plan | `lembuya_run` | peer | archive ÷ peer | `lembuya_run` into a buffer just as long as the log |\n|---|---|---|---|---|"
+         | Plan | `lembuya_run` | peer | ÷ peer | `lembuya_run` into a buffer just as long as the log |\n|---|---|---|---|---|"
     )
     .unwrap();
     for (case, row) in rows {
@@ -79,31 +85,32 @@ pub fn log_table(page: &mut String, rows: &[(&Case, &Row)]) {
     writeln!(page).unwrap();
 }
 
-pub fn growth_tables(page: &mut String, mut all: Vec<(&Case, &Row)>) {
-    all.sort_by_key(|(case, _)| (case.nodes, case.levels));
-    let head = "light | full | full, all normal | longest step within a frame | at a frame's start |\n|---|---|---|---|---|---|";
-    let line = |page: &mut String, name: usize, row: &Row| {
-        let calls = row.calls.each_ref().map(|rounds| {
-            format!(
-                "{:.1} / {:.1} / {:.1}",
-                rounds.figure(ARCHIVE),
-                rounds.figure(PEER),
-                rounds.figure(BIT_SETS)
-            )
-        });
-        let longest = [row.worst.step, row.worst.step_at_start].map(|step| step.map(commas).join(" / "));
-        writeln!(page, "| {name} | {} | {} |", calls.join(" | "), longest.join(" | ")).unwrap();
-    };
+/// How the cost grows with nodes, and with levels.
+pub fn growth_tables(page: &mut String, all: &[(&Case, &Row)]) {
     writeln!(
         page,
-        "## Growth\n\nNanoseconds of archive / peer / bit sets. With nodes (one level up to 32, two above), and with levels (32 nodes):\n\n| Nodes | {head}"
+        "## Growth\n\nNanoseconds of archive / peer / bit sets: with nodes, one level up to 32 and two above; with levels, at 32 nodes.\n"
     )
     .unwrap();
-    for (case, row) in all.iter().filter(|(case, _)| case.levels == if case.nodes <= 32 { 1 } else { 2 }) {
-        line(page, case.nodes, row);
+    let mut sorted = all.to_vec();
+    sorted.sort_by_key(|(case, _)| (case.nodes, case.levels));
+    let by_nodes = sorted.iter().filter(|(case, _)| case.levels == if case.nodes <= 32 { 1 } else { 2 });
+    growth_table(page, "Nodes", by_nodes.map(|(case, row)| (case.nodes, *row)).collect());
+    let by_levels = sorted.iter().filter(|(case, _)| case.nodes == 32);
+    growth_table(page, "Levels", by_levels.map(|(case, row)| (case.levels, *row)).collect());
+}
+
+fn growth_table(page: &mut String, what: &str, columns: Vec<(usize, &Row)>) {
+    let heads: Vec<String> = columns.iter().map(|(number, _)| number.to_string()).collect();
+    writeln!(page, "| {what} | {} |\n|---|{}", heads.join(" | "), "---|".repeat(heads.len())).unwrap();
+    let mut line = |name: &str, cell: &dyn Fn(&Row) -> String| {
+        let cells: Vec<String> = columns.iter().map(|(_, row)| cell(row)).collect();
+        writeln!(page, "| {name} | {} |", cells.join(" | ")).unwrap();
+    };
+    for (load, name) in LOADS.iter().enumerate() {
+        line(&format!("a call, {name}"), &|row| three(&row.calls[load]));
     }
-    writeln!(page, "\n| Levels | {head}").unwrap();
-    for (case, row) in all.iter().filter(|(case, _)| case.nodes == 32) {
-        line(page, case.levels, row);
-    }
+    line("longest step within a frame", &|row| three_longest(row.worst.step));
+    line("longest step at a frame's start", &|row| three_longest(row.worst.step_at_start));
+    writeln!(page).unwrap();
 }
