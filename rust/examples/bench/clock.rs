@@ -1,6 +1,6 @@
 //! Single calls by the processor's clock.
 
-use std::arch::x86_64::{_mm_lfence, _rdtsc};
+use std::arch::x86_64::{_mm_lfence, _mm_mfence, _rdtsc};
 use std::time::Instant;
 
 #[inline(always)]
@@ -31,13 +31,17 @@ impl Clock {
         Clock { ticks_a_nanosecond, empty: empty.min().unwrap() }
     }
 
-    /// The least time of some work over many repeats, each with what is made ready for it.
-    pub fn least<T>(&self, repeats: usize, mut ready: impl FnMut() -> T, mut work: impl FnMut(T)) -> f64 {
+    /// The least time of some work over many repeats, each on the same state made anew. What making it
+    /// writes is in the cache before the clock is read, so that its length doesn't count.
+    pub fn least<S: Clone>(&self, repeats: usize, state: &S, mut work: impl FnMut(&mut S)) -> f64 {
+        let mut again = state.clone();
         let mut least = u64::MAX;
         for _ in 0..repeats {
-            let made = ready();
+            again.clone_from(state);
+            let lent = std::hint::black_box(&mut again);
+            unsafe { _mm_mfence() };
             let from = ticks();
-            work(made);
+            work(lent);
             least = least.min(ticks() - from);
         }
         least.saturating_sub(self.empty) as f64 / self.ticks_a_nanosecond

@@ -1,7 +1,5 @@
 //! Loads: the calls that are timed.
 
-use crate::probes::walks;
-use reference::core::Class;
 use reference::fast::Fast;
 use reference::hub::{Answer, Call};
 use reference::plan::{self, Plan};
@@ -56,7 +54,8 @@ impl Maker {
         }
     }
 
-    fn load(mut self, before: usize) -> Load {
+    /// What was called so far, the first part of it before the timing.
+    pub fn load(mut self, before: usize) -> Load {
         let timed = self.calls.split_off(before);
         Load { before: self.calls, timed }
     }
@@ -108,40 +107,6 @@ pub fn full(plan: &Plan, calls: usize, reserved: bool) -> Load {
         }
     }
     maker.load(before)
-}
-
-/// The nodes without a reservation ask normal all the time; behind one grant in four one of the others, by
-/// chance, asks high, as a camera does when a sheet passes.
-pub fn cameras(plan: &Plan, calls: usize) -> Load {
-    let mut random = Random::new(4);
-    let mut maker = Maker::new(plan);
-    maker.reserve(plan);
-    let nodes = plan.nodes as u64;
-    for k in (2..=nodes).step_by(2) {
-        maker.ask(&mut random, plan.frame, k);
-    }
-    let before = maker.calls.len();
-    while maker.calls.len() < before + calls {
-        match maker.call(Call::Step { t: LAST_TIME }) {
-            Answer::Grant { time, node, class, .. } => {
-                if class == Class::Normal {
-                    maker.ask(&mut random, time, node);
-                }
-                if random.chance(25) {
-                    let k = 2 * random.within(1..=nodes / 2) - 1;
-                    maker.ask(&mut random, time, k);
-                }
-            }
-            other => panic!("{other:?}"),
-        }
-    }
-    maker.load(before)
-}
-
-/// The calls of the long walks.
-pub fn far_apart(plan: &Plan) -> Load {
-    let last = walks(plan).pop().expect("a probe");
-    Load { before: Vec::new(), timed: [last.before, vec![last.call]].concat() }
 }
 
 /// A text of a plan and the events of both loads, as long as the program reads.

@@ -1,43 +1,42 @@
 //! The longest single calls.
 
-use crate::archive::{self, cells};
+use crate::archive::cells;
 use crate::clock::Clock;
-use crate::hubs::Tables;
+use crate::hubs::{Hubs, Tables};
 use crate::loads::Load;
-use crate::probes::{reserves, starts, walks};
-use lembuya::ffi;
-use reference::fast::Fast;
-use reference::hub::{Call, Calls};
+use crate::probes::{reserves, starts, walks, Probe};
+use reference::hub::Call;
 use reference::plan::Plan;
 use std::hint::black_box;
 
-/// The longest call so far of a kind, and what it was.
-#[derive(Clone, Default)]
-pub struct Longest {
-    pub nanoseconds: f64,
-    pub what: String,
+/// How many rounds a run has; how many calls of each load are measured alone, how often each in one pass, and in
+/// how many passes.
+#[derive(Clone, Copy)]
+pub struct Effort {
+    pub rounds: usize,
+    pub calls: usize,
+    pub repeats: usize,
+    pub passes: usize,
 }
 
-impl Longest {
-    fn add(&mut self, nanoseconds: f64, what: impl FnOnce() -> String) {
-        if nanoseconds > self.nanoseconds {
-            *self = Longest { nanoseconds, what: what() };
-        }
-    }
-}
+/// The longest time of each hub, over all calls of a kind.
+pub type Longest = [f64; 3];
 
-/// The longest steps and events within a frame and at a frame's start.
-#[derive(Clone, Default)]
+#[derive(Clone, Copy, Default)]
 pub struct Worst {
-    pub step: [Longest; 2],
-    pub event: [Longest; 2],
-    pub reserve: Longest,
-    pub fast_step: [Longest; 2],
+    pub step: Longest,
+    pub step_at_start: Longest,
+    pub event: Longest,
+    pub event_at_start: Longest,
 }
 
-/// How often a call is repeated in one pass, and how many passes there are.
-pub const REPEATS: usize = 100;
-pub const PASSES: usize = 5;
+/// One call that was measured: the least time of each hub.
+struct Timed {
+    step: bool,
+    /// Whether a frame started at it.
+    start: bool,
+    least: [f64; 3],
+}
 
 /// The frame that a table's clock lies in.
 fn frame_of(tables: &Tables) -> u64 {
@@ -45,111 +44,59 @@ fn frame_of(tables: &Tables) -> u64 {
     clock / u64::from(tables.plan[cells::plan::FRAME])
 }
 
-/// One call that was measured.
-pub struct Timed {
-    pub call: Call,
-    /// Whether a frame started at it.
-    pub start: bool,
-    pub archive: f64,
-    pub fast: f64,
-    pub moves: u64,
-    pub name: &'static str,
+/// One call by each hub, from the same state each time, and then made once.
+fn measure_call(clock: &Clock, hubs: &mut Hubs, call: Call, repeats: usize) -> Timed {
+    let call = black_box(call);
+    let archive = clock.least(repeats, &hubs.tables, |hub| hub.timed_call(call));
+    let peer = clock.least(repeats, &hubs.peer, |hub| {
+        black_box(hub.call(call));
+    });
+    let fast = clock.least(repeats, &hubs.fast, |hub| {
+        black_box(hub.call(call));
+    });
+    let before = frame_of(&hubs.tables);
+    hubs.call(call);
+    let step = matches!(call, Call::Step { .. });
+    Timed { step, start: frame_of(&hubs.tables) > before, least: [archive, peer, fast] }
 }
 
-/// One call from these tables, by the archive and, if it is a step, by the quick hub. The tables are in the
-/// cache.
-fn measure_call(clock: &Clock, tables: &Tables, fast: &Fast, call: Call, name: &'static str) -> Timed {
-    let mut again = tables.clone();
-    let cascade: *mut ffi::Cascade = &mut *again.cascade;
-    let mut six = [0; 6];
-    let archive = clock.least(
-        REPEATS,
-        || {
-            // Only one reference at a time is made from the pointer.
-            let cascade = unsafe { &mut *cascade };
-            cascade.copy_from_slice(&tables.cascade[..]);
-            black_box(cascade)
-        },
-        |cascade| {
-            black_box(archive::number_of(&tables.plan, cascade, black_box(call), &mut six));
-        },
-    );
-    let start = frame_of(&again) > frame_of(tables);
-    let mut by_fast = 0.0;
-    if let Call::Step { .. } = call {
-        let mut again = Box::new(fast.clone());
-        let hub: *mut Fast = &mut *again;
-        by_fast = clock.least(
-            REPEATS,
-            || {
-                let hub = unsafe { &mut *hub };
-                hub.clone_from(fast);
-                black_box(hub)
-            },
-            |hub| {
-                black_box(hub.call(black_box(call)));
-            },
-        );
-    }
-    Timed { call, start, archive, fast: by_fast, moves: six[5], name }
-}
-
-/// The calls of a load, one by one.
-pub fn measure_load(
-    clock: &Clock,
-    plan: &Plan,
-    load: &Load,
-    calls: usize,
-    name: &'static str,
-    timed: &mut Vec<Timed>,
-) {
-    let (mut tables, mut fast) = (Tables::new(plan), Fast::new(plan));
-    for &call in &load.before {
-        tables.call(call);
-        fast.call(call);
-    }
-    for &call in load.timed.iter().take(calls) {
-        timed.push(measure_call(clock, &tables, &fast, call, name));
-        tables.call(call);
-        fast.call(call);
-    }
-}
-
-/// The hardest calls for a plan.
-pub fn measure_plan(clock: &Clock, plan: &Plan, timed: &mut Vec<Timed>) {
-    for probe in [starts(plan), reserves(plan), walks(plan)].concat() {
-        let (mut tables, mut fast) = (Tables::new(plan), Fast::new(plan));
-        for &call in &probe.before {
-            tables.call(call);
-            fast.call(call);
+/// The calls of some lists, one by one, and the hardest calls of the plan.
+fn pass(clock: &Clock, plan: &Plan, lists: &[(&Hubs, &Load)], effort: Effort) -> Vec<Timed> {
+    let mut timed = Vec::new();
+    for &(ready, load) in lists {
+        let mut hubs = ready.clone();
+        for &call in load.timed.iter().take(effort.calls) {
+            timed.push(measure_call(clock, &mut hubs, call, effort.repeats));
         }
-        timed.push(measure_call(clock, &tables, &fast, probe.call, probe.name));
     }
+    let Load { before, timed: calls } = walks(plan);
+    let mut hubs = Hubs::new(plan, &before);
+    for call in calls {
+        timed.push(measure_call(clock, &mut hubs, call, effort.repeats));
+    }
+    for Probe { before, call } in starts(plan).into_iter().chain(reserves(plan)) {
+        timed.push(measure_call(clock, &mut Hubs::new(plan, &before), call, effort.repeats));
+    }
+    timed
 }
 
 /// The longest calls, of each call the least time of several passes over all of them.
-pub fn longest(measure: impl Fn(&mut Vec<Timed>)) -> Worst {
-    let mut all = Vec::new();
-    measure(&mut all);
-    for _ in 1..PASSES {
-        let mut again = Vec::new();
-        measure(&mut again);
-        for (own, other) in all.iter_mut().zip(again) {
-            own.archive = own.archive.min(other.archive);
-            own.fast = own.fast.min(other.fast);
+pub fn longest(clock: &Clock, plan: &Plan, lists: &[(&Hubs, &Load)], effort: Effort) -> Worst {
+    let mut all = pass(clock, plan, lists, effort);
+    for _ in 1..effort.passes {
+        for (own, other) in all.iter_mut().zip(pass(clock, plan, lists, effort)) {
+            own.least = std::array::from_fn(|hub| own.least[hub].min(other.least[hub]));
         }
     }
     let mut worst = Worst::default();
-    for Timed { call, start, archive, fast, moves, name } in all {
-        let place = usize::from(start);
-        match call {
-            Call::Step { .. } => {
-                worst.step[place].add(archive, || format!("{name}, {moves} moves"));
-                worst.fast_step[place].add(fast, || name.into());
-            }
-            Call::Reserve { .. } => worst.reserve.add(archive, || name.into()),
-            event => worst.event[place].add(archive, || format!("{name}, {event:?}")),
-        }
+    for Timed { step, start, least } in all {
+        let kind = match (step, start) {
+            (true, false) => &mut worst.step,
+            (true, true) => &mut worst.step_at_start,
+            (false, false) => &mut worst.event,
+            (false, true) => &mut worst.event_at_start,
+        };
+        *kind = std::array::from_fn(|hub| kind[hub].max(least[hub]));
     }
     worst
 }

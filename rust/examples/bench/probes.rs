@@ -1,38 +1,30 @@
 //! The hardest single calls of a plan.
 
-use crate::loads::{Maker, LAST_TIME};
+use crate::loads::{Load, Maker, LAST_TIME};
 use reference::hub::{Answer, Call};
 use reference::plan::Plan;
 use reference::random::Random;
 
 /// A call behind others.
-#[derive(Clone)]
 pub struct Probe {
-    pub name: &'static str,
     pub before: Vec<Call>,
     pub call: Call,
 }
 
-/// Whose reservations are given up, by a name.
-type GivenUp = (&'static str, fn(u64) -> bool);
-
-const GIVEN_UP: [GivenUp; 3] = [
-    ("all stay high", |_| false),
-    ("all become normal", |_| true),
-    ("each second becomes normal", |k| k % 2 == 0),
-];
+/// Whose reservations are given up: nobody's, everybody's, or those of each second node.
+const GIVEN_UP: [fn(u64) -> bool; 3] = [|_| false, |_| true, |k| k % 2 == 0];
 
 /// The most that a frame's start can ask of a call: every node has a high request, and the reservations of
 /// none, of all, or of each second one are given up, so that its requests become normal; or all packets
 /// were spent, and all requests are held.
 pub fn starts(plan: &Plan) -> Vec<Probe> {
-    let given_up = GIVEN_UP.map(|(name, up)| (name, start_given_up(plan, up)));
-    let lists = given_up.into_iter().chain([("all were held", start_held(plan))]);
-    lists.flat_map(|(name, before)| at_start(plan, name, before)).collect()
+    let given_up = GIVEN_UP.map(|up| start_given_up(plan, up));
+    let lists = given_up.into_iter().chain([start_held(plan)]);
+    lists.flat_map(|before| at_start(plan, before)).collect()
 }
 
 /// The calls that may meet the start of frame 2 behind others.
-fn at_start(plan: &Plan, name: &'static str, before: Vec<Call>) -> Vec<Probe> {
+fn at_start(plan: &Plan, before: Vec<Call>) -> Vec<Probe> {
     let t = 2 * plan.frame;
     let calls = [
         Call::Step { t: LAST_TIME },
@@ -40,7 +32,7 @@ fn at_start(plan: &Plan, name: &'static str, before: Vec<Call>) -> Vec<Probe> {
         Call::Normal { t, k: 1, b: 512 },
         Call::High { t, k: 2, b: 512 },
     ];
-    calls.map(|call| Probe { name, before: before.clone(), call }).into()
+    calls.map(|call| Probe { before: before.clone(), call }).into()
 }
 
 /// A long packet runs over the start of frame 2, some give up what they reserved, and all ask high.
@@ -86,38 +78,27 @@ pub fn reserves(plan: &Plan) -> Vec<Probe> {
     let before = all_reserved(plan).calls;
     let t = plan.frame + 1;
     let calls = [Call::Reserve { t, k: 1, n: 1, b: 513 }, Call::Reserve { t, k: 1, n: 64, b: 12_000 }];
-    calls.map(|call| Probe { name: "all nodes have reserved", before: before.clone(), call }).into()
+    calls.map(|call| Probe { before: before.clone(), call }).into()
 }
 
 /// Long walks: few nodes, mostly far apart, ask in both classes.
-pub fn walks(plan: &Plan) -> Vec<Probe> {
+pub fn walks(plan: &Plan) -> Load {
     let nodes = plan.nodes as u64;
-    let mut probes = Vec::new();
     let mut random = Random::new(3);
     let mut maker = Maker::new(plan);
     maker.reserve(plan);
+    let before = maker.calls.len();
     let mut t = plan.frame;
     for _ in 0..600 {
         for _ in 0..random.within(1..=3) {
             let any = random.within(1..=nodes);
             let k = random.one_of(&[1, 2.min(nodes), nodes.saturating_sub(1).max(1), nodes, any]);
             maker.ask(&mut random, t, k);
-            let asked = maker.calls.len() - 1;
-            probes.push(Probe {
-                name: "few nodes far apart",
-                before: maker.calls[..asked].to_vec(),
-                call: maker.calls[asked],
-            });
         }
-        probes.push(Probe {
-            name: "few nodes far apart",
-            before: maker.calls.clone(),
-            call: Call::Step { t: LAST_TIME },
-        });
         match maker.call(Call::Step { t: LAST_TIME }) {
             Answer::Grant { time, .. } | Answer::Rest { time, .. } => t = time,
             other => panic!("{other:?}"),
         }
     }
-    probes
+    maker.load(before)
 }

@@ -9,9 +9,10 @@
 //! - [`flat`], [`control`]: the two ways of choosing it.
 //! - [`hub`], [`log`]: the six calls and their answers; the whole program.
 //! - [`fast`]: the flat hub again, written for speed.
+//! - [`peer`]: control again, written for speed.
 //! - [`random`], [`shrink`], [`demand3`]: tools to try a hub with.
 
-#![forbid(unsafe_code)]
+#![deny(unsafe_code)]
 #![warn(missing_docs)]
 
 pub mod control;
@@ -21,6 +22,7 @@ pub mod fast;
 pub mod flat;
 pub mod hub;
 pub mod log;
+pub mod peer;
 pub mod plan;
 pub mod random;
 pub mod shrink;

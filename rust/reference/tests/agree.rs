@@ -1,4 +1,4 @@
-//! Flat, control and fast answer alike on random lists of calls; and in every
+//! Flat, control, fast and peer answer alike on random lists of calls; and in every
 //! state that one of them reaches, control by slip 4 takes no more moves than by
 //! document 01's own rule 2, and gives the same turn.
 
@@ -8,6 +8,7 @@ use common::{control, flat};
 use reference::control::{Control, Turning};
 use reference::fast::Fast;
 use reference::hub::{Answer, Call, Hub};
+use reference::peer::Peer;
 use reference::random::calls::{Caller, Style};
 use reference::random::{plans, Random};
 
@@ -52,6 +53,7 @@ fn agree(seed: u64, calls: u64, met: &mut Met) {
     let style = if random.chance(60) { Style::Mixed } else { Style::Loaded };
     let mut caller = Caller::new(&plan, random.number(), style);
     let (mut flat, mut control, mut fast) = (flat(&plan), control(&plan), Fast::new(&plan));
+    let mut peer = Peer::new(&plan);
     let mut root = Hub::new(&plan, Control::turning(&plan, Turning::Root));
     let levels = plan.levels() as u64;
     met.most_levels = met.most_levels.max(levels);
@@ -67,6 +69,7 @@ fn agree(seed: u64, calls: u64, met: &mut Met) {
         }
         let answer = control.call(call);
         assert_eq!(root.call(call).without_moves(), answer.without_moves(), "by the root, {}", at());
+        assert_eq!(peer.call(call), answer, "peer, {}", at());
         assert_eq!(flat.call(call), answer.without_moves(), "flat, {}", at());
         assert_eq!(fast.call(call), answer.without_moves(), "fast, {}", at());
         assert!(answer.moves() <= 4 * (levels - 1), "moves {}, {}", answer.moves(), at());
@@ -85,7 +88,7 @@ fn lists(seeds: std::ops::Range<u64>, calls: u64) -> Met {
 }
 
 #[test]
-fn the_three_hubs_agree() {
+fn the_hubs_agree() {
     let met = lists(0..600, 500);
     for row in 11..=17 {
         assert!(met.refused[row] > 500, "row {row} was hardly met: {met:?}");
@@ -99,7 +102,7 @@ fn the_three_hubs_agree() {
 /// `cargo test --release -- --ignored`, with LISTS to say how many.
 #[test]
 #[ignore = "long"]
-fn the_three_hubs_agree_for_long() {
+fn the_hubs_agree_for_long() {
     let many = std::env::var("LISTS").ok().and_then(|lists| lists.parse().ok()).unwrap_or(20_000);
     lists(1_000_000..1_000_000 + many, 1_000);
 }

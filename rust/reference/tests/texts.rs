@@ -5,6 +5,7 @@ mod common;
 use common::{control, flat, PLAN};
 use reference::fast::Fast;
 use reference::log::{log, log_of};
+use reference::peer::{self, Peer};
 use reference::plan::{draw, read, Taken};
 use reference::random::{plans, texts, Random};
 use reference::shrink::shrink;
@@ -47,6 +48,8 @@ fn random_texts_have_one_log() {
         let text = texts::text(&mut Random::new(seed));
         let by_control = log(&text);
         assert_eq!(by_control, log_of(&text, control));
+        assert!(by_control == log_of(&text, Peer::new), "seed {seed}");
+        assert!(by_control == peer::log::log(&text), "seed {seed}");
         assert!(without_moves(&by_control) == without_moves(&log_of(&text, flat)), "seed {seed}");
         assert!(without_moves(&by_control) == without_moves(&log_of(&text, Fast::new)), "seed {seed}");
         let cut = &text[..text.len().min(65_536)];

@@ -6,6 +6,7 @@ use common::{texts, texts_now, vectors};
 use reference::control::{Control, Turning};
 use reference::hub::Hub;
 use reference::log::{log, log_of};
+use reference::peer;
 use std::path::PathBuf;
 
 /// So many texts have the logs that stand beside them.
@@ -19,6 +20,7 @@ fn logs_are_given(texts: Vec<PathBuf>, count: usize, log: impl Fn(&[u8]) -> Vec<
 #[test]
 fn every_log_is_the_one_given() {
     logs_are_given(texts_now(), 54, log);
+    logs_are_given(texts_now(), 54, peer::log::log);
 }
 
 /// By document 01's own rule 2 every log is the one given before slip 4.

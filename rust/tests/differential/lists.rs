@@ -7,6 +7,7 @@ use lembuya::ffi;
 use reference::fast::Fast;
 use reference::flat::Flat;
 use reference::hub::{Answer, Call, Hub};
+use reference::peer::Peer;
 use reference::plan::{self, Plan};
 use reference::random::calls::{list, Style};
 use reference::random::{plans, texts, Random};
@@ -48,6 +49,7 @@ fn list_of(text: &[u8]) -> Option<(Plan, Vec<Call>)> {
 /// Whether every hub's answers are those of the reference's control; if not, where they differ.
 fn same_answers(plan: &Plan, list: &[(Call, Answer)]) -> Result<(), String> {
     let (mut flat, mut fast) = (Hub::new(plan, Flat::new(plan)), Fast::new(plan));
+    let mut peer = Peer::new(plan);
     let mut hub = Archive::blank(FILL_CELL, list.len().is_multiple_of(2));
     hub.begin(plan);
     let table = *hub.plan();
@@ -69,6 +71,10 @@ fn same_answers(plan: &Plan, list: &[(Call, Answer)]) -> Result<(), String> {
         }
         if expected.moves() > most_moves {
             return wrong("too many moves");
+        }
+        let peer = peer.call(call);
+        if found != Some(peer) {
+            return wrong(&format!("peer {peer:?}"));
         }
         let (flat, fast) = (flat.call(call), fast.call(call));
         if flat != expected.without_moves() || fast != expected.without_moves() {

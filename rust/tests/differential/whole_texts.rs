@@ -6,6 +6,7 @@ use crate::{cut_down, FILL, FILL_CELL};
 use lembuya::{ffi, LONGEST_LOG};
 use reference::hub::{Answer, Call, Calls};
 use reference::log::{log, log_of};
+use reference::peer;
 use reference::random::{texts, Random};
 
 /// Whether the archive writes the log expected, into a buffer that has some bytes more or none, or that has
@@ -64,9 +65,15 @@ fn tables_left(text: &[u8], plan_left: &ffi::Plan, cascade_left: &ffi::Cascade) 
     Ok(())
 }
 
-/// Whether the archive's log of a text is the reference's; if not, what it is.
+/// Whether the archive's log of a text is the reference's and the peer's; if not, what it is.
 fn same_log(text: &[u8]) -> Result<(), String> {
-    writes(text, &log(text), !text.len().is_multiple_of(4))
+    let expected = log(text);
+    writes(text, &expected, !text.len().is_multiple_of(4))?;
+    let by_peer = peer::log::log(text);
+    if by_peer != expected {
+        return Err(format!("by the peer:\n{}", String::from_utf8_lossy(&by_peer)));
+    }
+    Ok(())
 }
 
 /// Fails with a text cut down, and both logs. It looks at some more seeds for a shorter text.

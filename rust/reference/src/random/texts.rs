@@ -92,45 +92,8 @@ fn damage(random: &mut Random, text: &mut Vec<u8>) {
         return;
     }
     match random.below(13) {
-        // A bit flipped.
-        0 => {
-            let at = random.place(text.len());
-            text[at] ^= 1 << random.below(8);
-        }
-        // A byte in place of another.
-        1 => {
-            let at = random.place(text.len());
-            text[at] = random.one_of(b"()0 19\n\r\t\0nh\xff");
-        }
-        // A byte more, or less.
-        2 => text.insert(random.place(text.len()), random.one_of(b"()0 19\n\r")),
-        3 => {
-            text.remove(random.place(text.len()));
-        }
-        // A text cut anywhere, and one without its last LF.
-        4 => text.truncate(random.place(text.len())),
-        5 => {
-            text.pop();
-        }
-        // Lines cut, doubled, swapped.
-        6 => lines(text, |lines| {
-            lines.remove(random.place(lines.len()));
-        }),
-        7 => lines(text, |lines| {
-            let line = lines[random.place(lines.len())].clone();
-            lines.insert(random.place(lines.len()), line);
-        }),
-        8 => lines(text, |lines| {
-            let (one, other) = (random.place(lines.len()), random.place(lines.len()));
-            lines.swap(one, other);
-        }),
-        9 => lines(text, |lines| {
-            let at = random.place(lines.len());
-            let word: &[u8] = random.one_of(&[b"(node)\n", b"(empty)\n", b"(hub\n", b")\n", b"\n"]);
-            for _ in 0..random.one_of(&[1, 1, 5, 33, 257]) {
-                lines.insert(at, word.to_vec());
-            }
-        }),
+        kind @ 0..=5 => damage_bytes(random, text, kind),
+        kind @ 6..=9 => lines(text, |lines| damage_lines(random, lines, kind)),
         // Longer than the program reads.
         10 if random.chance(20) => {
             let tail = text[text.len() / 2..].to_vec();
@@ -146,6 +109,50 @@ fn damage(random: &mut Random, text: &mut Vec<u8>) {
                 let figure = random.one_of(&FIGURES);
                 replace_figure(random, &mut lines[at], figure);
             });
+        }
+    }
+}
+
+fn damage_bytes(random: &mut Random, text: &mut Vec<u8>, kind: u64) {
+    let at = random.place(text.len());
+    match kind {
+        // A bit flipped, and a byte in place of another.
+        0 => text[at] ^= 1 << random.below(8),
+        1 => text[at] = random.one_of(b"()0 19\n\r\t\0nh\xff"),
+        // A byte more, or many, so that a line is too long; and a byte less.
+        2 => {
+            let byte = random.one_of(b"()0 19\n\r");
+            let many = random.one_of(&[1, 1, 1, 80, 300]);
+            text.splice(at..at, std::iter::repeat_n(byte, many));
+        }
+        3 => {
+            text.remove(at);
+        }
+        // A text cut anywhere, and one without its last LF.
+        4 => text.truncate(at),
+        _ => {
+            text.pop();
+        }
+    }
+}
+
+/// Lines cut, doubled, swapped, and one line put in some times.
+fn damage_lines(random: &mut Random, lines: &mut Vec<Vec<u8>>, kind: u64) {
+    let (at, other) = (random.place(lines.len()), random.place(lines.len()));
+    match kind {
+        6 => {
+            lines.remove(at);
+        }
+        7 => {
+            let line = lines[at].clone();
+            lines.insert(other, line);
+        }
+        8 => lines.swap(at, other),
+        _ => {
+            let word: &[u8] = random.one_of(&[b"(node)\n", b"(empty)\n", b"(hub\n", b")\n", b"\n"]);
+            for _ in 0..random.one_of(&[1, 1, 5, 33, 257]) {
+                lines.insert(at, word.to_vec());
+            }
         }
     }
 }

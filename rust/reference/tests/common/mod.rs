@@ -6,6 +6,7 @@ use reference::core::{Class, Turns};
 use reference::fast::Fast;
 use reference::flat::Flat;
 use reference::hub::{Answer, Calls, Hub};
+use reference::peer::Peer;
 use reference::plan::{read, Plan};
 use std::collections::BTreeMap;
 use std::path::{Path, PathBuf};
@@ -26,9 +27,9 @@ pub fn control(plan: &Plan) -> Hub<Control> {
     Hub::new(plan, Control::new(plan))
 }
 
-/// The three hubs, control first.
-pub fn hubs(plan: &Plan) -> [Box<dyn Calls>; 3] {
-    [Box::new(control(plan)), Box::new(flat(plan)), Box::new(Fast::new(plan))]
+/// The hubs, first the two that count moves.
+pub fn hubs(plan: &Plan) -> [Box<dyn Calls>; 4] {
+    [Box::new(control(plan)), Box::new(Peer::new(plan)), Box::new(flat(plan)), Box::new(Fast::new(plan))]
 }
 
 pub fn grant(time: u64, node: u64, class: u64, end: u64, moves: u64) -> Answer {
