@@ -1,8 +1,8 @@
--- The theorems: Sample (document 01's example by computing), RunLogged (a pass over the lent tables writes
--- or measures the log, and leaves the hub behind the last event), AtOnce (lines one by one are their bytes at once), NoStepLeft (no step is left out),
--- NeverTwelve (no event of any text meets 12), LogLength (no log has more than 18 × 65,536 bytes). Writing,
--- Leading, StepsLogged and EventsLogged serve the second; RefusedLines serves NeverTwelve; LineLengths,
--- PutAside, EventsPaid and EventsPlace serve the last, and RefusedPlan serves both.
+-- The theorems: Sample (document 01's example by computing), RunLogged (a pass over the lent tables writes or
+-- measures the log, and leaves the hub behind the last event), AtOnce (lines one by one are their bytes at once),
+-- NoStepLeft (no step is left out), NeverTwelve (no event of any text meets 12), LogLength (no log has more than
+-- 18 × 65,536 bytes). Writing, Leading, StepsLogged and EventsLogged serve the second; RefusedLines serves
+-- NeverTwelve; LineLengths, PutAside, EventsPaid and EventsPlace serve the last, and RefusedPlan serves both.
 pub mod Sample
 pub mod Writing
 pub mod Leading
