@@ -25,24 +25,32 @@ pub fn frame_of(frame: u32, t: u64) -> u64
     t / frame as u64
 }
 
-// What becomes of a request's cell at a frame's start, by the reservation that comes into force.
+// The class in which a standing request goes on, by the reservation that comes into force: what its cell has above its bits.
+fn class_then(share: u32, x: u32) -> u32
+    requires { ⌜ half ≤ x ⌝ }
+    ensures { λ r. ⌜ r + x % half ≡ requestCode (reclassed (shareOf share) (requestOf x)) ⌝ }
+    ensures { λ r. ⌜ r ≤ 131072 ⌝ }
+{
+    if x < cells::HIGH {
+        return cells::NORMAL;
+    }
+    if share < cells::HALF {
+        return cells::NORMAL;
+    }
+    if share % cells::HALF < x % cells::HALF {
+        return cells::NORMAL;
+    }
+    cells::HIGH
+}
+
+// What becomes of a request's cell at a frame's start. One sum for every class is what the compiler makes the shortest loop of.
 fn reclassed(share: u32, x: u32) -> u32
     ensures { λ r. ⌜ r ≡ requestCode (reclassed (shareOf share) (requestOf x)) ⌝ }
 {
     if x < cells::NORMAL {
         return 0;
     }
-    let bits = x % cells::HALF;
-    if x < cells::HIGH {
-        return cells::NORMAL + bits;
-    }
-    if share < cells::HALF {
-        return cells::NORMAL + bits;
-    }
-    if share % cells::HALF < bits {
-        return cells::NORMAL + bits;
-    }
-    cells::HIGH + bits
+    class_then(share, x) + x % cells::HALF
 }
 
 fn start_cells(s: &mut Cascade, k: u32)
