@@ -2,23 +2,26 @@
 -- kept, and a change at a node mends them from its hub up to the first
 -- hub that shows something as before, or nothing as before.
 use Prim.Native.Nat.{ℕ, zero, suc, _+_, _-_}
-use mathlib.Core.Bool.{Bool, true, false, _&&_, Bool·beq}
+use mathlib.Core.Bool.{Bool, true, false, _&&_, _||_, Bool·beq}
 use mathlib.Core.List.{List}
 use lib.Dec.{ltb, leb}
 use lib.ListN.{getD, set}
 use Rattle.rules.specs.Choice.{if_then_else_}
 use Rattle.rules.specs.Plan.{most-levels}
-use Rattle.rules.specs.Call.{normal, high}
 use Rattle.rules.specs.Core.{isClass}
 use Rattle.ports.specs.Ports.{putPort, anyPort}
 use Rattle.ports.specs.Mask.{shows, maskOf}
 use Rattle.plan_tree.specs.Tables as plan
-use Rattle.cells.specs.Layout.{standing-cell, maskCell, requestCell, forceCell, grantedCell, ifHub, ifNode, requestOf, shareOf}
+use Rattle.cells.specs.Layout.{standing-cell, maskCell, requestCell, forceCell, grantedCell, classOf, ifHub, ifNode, requestOf, shareOf}
+
+-- a request's cell stands for a request of a class
+abbrev pub standsIn : Bool → ℕ → Bool
+standsIn isHigh x = isClass (classOf isHigh) (requestOf x)
 
 -- what a node's cells say of whether its request counts in a class: request, high grants in the frame, and reservation in force
 abbrev pub countsBy : Bool → ℕ → ℕ → ℕ → Bool
-countsBy false x granted force = isClass normal (requestOf x)
-countsBy true x granted force = isClass high (requestOf x) && ltb granted (shareOf force .packets)
+countsBy false x granted force = standsIn false x
+countsBy true x granted force = standsIn true x && ltb granted (shareOf force .packets)
 
 abbrev pub countsAt : Bool → ℕ → List ℕ → Bool
 countsAt isHigh k s = countsBy isHigh (getD s (requestCell k) 0) (getD s (grantedCell k) 0) (getD s (forceCell k) 0)
@@ -45,12 +48,15 @@ module _ (P : List ℕ) (isHigh : Bool) where
       else mend levels (getD P (plan.parentCell g) 0) (getD P (plan.placeCell g) 0) (anyPort (shows mask)) left)
       s
 
--- both classes' bits of node k, by what its cells say
-unfoldable pub mendNode : List ℕ → ℕ → List ℕ → List ℕ
-mendNode P k s =
-    let g = plan.hubOfNode P k in
-    let q = plan.portOfNode P k in
-    ifNode k (mend P true most-levels g q (countsAt true k s) (mend P false most-levels g q (countsAt false k s) s)) s
+-- node k's bit in a class, by its request x and what its cells say beside it
+unfoldable pub mendBit : List ℕ → Bool → ℕ → ℕ → List ℕ → List ℕ
+mendBit P isHigh k x s =
+    mend P isHigh most-levels (plan.hubOfNode P k) (plan.portOfNode P k)
+    (countsBy isHigh x (getD s (grantedCell k) 0) (getD s (forceCell k) 0)) s
+
+-- the same where x came in place of `old`: in a class that neither stands in nothing has changed
+unfoldable pub mendClass : List ℕ → Bool → ℕ → ℕ → ℕ → List ℕ → List ℕ
+mendClass P isHigh k old x s = if standsIn isHigh x || standsIn isHigh old then mendBit P isHigh k x s else s
 
 -- a request's cell stands for a request
 abbrev pub stands : ℕ → Bool
@@ -65,9 +71,9 @@ standingAfter n old new =
 -- node k's request becomes x
 unfoldable pub putRequest : List ℕ → ℕ → ℕ → List ℕ → List ℕ
 putRequest P k x s =
-    ifNode k
-    (mendNode P k (set (set s standing-cell (standingAfter (getD s standing-cell 0) (getD s (requestCell k) 0) x)) (requestCell k) x))
-    s
+    let old = getD s (requestCell k) 0 in
+    let left = set (set s standing-cell (standingAfter (getD s standing-cell 0) old x)) (requestCell k) x in
+    ifNode k (mendClass P true k old x (mendClass P false k old x left)) s
 
 -- one high grant more; a count that no reservation allows stays
 abbrev pub grantedMore : Bool → ℕ → ℕ

@@ -1,7 +1,7 @@
 -- The worst case of a call: how many mask cells it writes, by the levels of the plan; at a frame's start by its
 -- nodes and hubs. The counts stand beside the definitions of Masks, Build, Frames and Calls, case by case.
 use Prim.Native.Nat.{ℕ, zero, suc, _+_}
-use mathlib.Core.Bool.{Bool, true, false}
+use mathlib.Core.Bool.{Bool, true, false, _||_}
 use mathlib.Core.List.{List}
 use lib.Dec.{ltb, eqb}
 use lib.ListN.{getD, set}
@@ -16,9 +16,9 @@ use Rattle.cells.specs.declared.Due.{Due}
 use Rattle.cells.specs.declared.Due.the-variants.{At, Never}
 use Rattle.cells.specs.declared.Sought.{Sought}
 use Rattle.cells.specs.declared.Sought.the-variants as seek
-use Rattle.cells.specs.Layout.{standing-cell, maskCell, requestCell, grantedCell, ifHub, ifNode, requestCode}
+use Rattle.cells.specs.Layout.{standing-cell, maskCell, requestCell, forceCell, grantedCell, ifHub, ifNode, requestCode}
 use Rattle.cells.specs.Decode.{planIn}
-use Rattle.cells.specs.Masks.{countsAt, maskWith, alike, mend, standingAfter, grantedMore}
+use Rattle.cells.specs.Masks.{standsIn, countsBy, maskWith, alike, mendClass, standingAfter, grantedMore}
 use Rattle.cells.specs.Build.{hubsIn}
 use Rattle.cells.specs.Frames.{newFrame, advanceBy}
 use Rattle.cells.specs.Instants.{dueBy, soughtBy}
@@ -39,22 +39,22 @@ mendWrites P isHigh (suc levels) g q b s =
     else mendWrites P isHigh levels (getD P (plan.parentCell g) 0) (getD P (plan.placeCell g) 0) (anyPort (shows mask)) left + 1)
     0
 
--- beside `mendNode`: of both classes
-unfoldable pub mendNodeWrites : List ℕ → ℕ → List ℕ → ℕ
-mendNodeWrites P k s =
-    let g = plan.hubOfNode P k in
-    let q = plan.portOfNode P k in
-    ifNode k
-    (mendWrites P true most-levels g q (countsAt true k s) (mend P false most-levels g q (countsAt false k s) s)
-    + mendWrites P false most-levels g q (countsAt false k s) s)
-    0
+-- beside `mendBit`
+unfoldable pub mendBitWrites : List ℕ → Bool → ℕ → ℕ → List ℕ → ℕ
+mendBitWrites P isHigh k x s =
+    mendWrites P isHigh most-levels (plan.hubOfNode P k) (plan.portOfNode P k)
+    (countsBy isHigh x (getD s (grantedCell k) 0) (getD s (forceCell k) 0)) s
 
--- beside `putRequest`
+-- beside `mendClass`
+unfoldable pub mendClassWrites : List ℕ → Bool → ℕ → ℕ → ℕ → List ℕ → ℕ
+mendClassWrites P isHigh k old x s = if standsIn isHigh x || standsIn isHigh old then mendBitWrites P isHigh k x s else 0
+
+-- beside `putRequest`: of both classes
 unfoldable pub putRequestWrites : List ℕ → ℕ → ℕ → List ℕ → ℕ
 putRequestWrites P k x s =
-    ifNode k
-    (mendNodeWrites P k (set (set s standing-cell (standingAfter (getD s standing-cell 0) (getD s (requestCell k) 0) x)) (requestCell k) x))
-    0
+    let old = getD s (requestCell k) 0 in
+    let left = set (set s standing-cell (standingAfter (getD s standing-cell 0) old x)) (requestCell k) x in
+    ifNode k (mendClassWrites P true k old x (mendClass P false k old x left) + mendClassWrites P false k old x left) 0
 
 -- beside `grantNode`
 unfoldable pub grantNodeWrites : List ℕ → Bool → ℕ → List ℕ → ℕ

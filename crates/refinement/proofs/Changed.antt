@@ -1,7 +1,7 @@
 -- A change of one node's cells: what counts elsewhere is as it was, so the masks are right but for that node.
 use Prim.Native.Nat.{ℕ, _-_, _≤_, _<_}
 use mathlib.Core.Path.{_≡_, refl, sym, subst, _∙_}
-use mathlib.Core.Bool.{Bool, true, false}
+use mathlib.Core.Bool.{Bool, true, false, true≢false}
 use mathlib.Core.List.{List}
 use native.Mathlib.Omega.{arith}
 use borrow.Author.Tests.{leb-true, le-leb}
@@ -15,7 +15,7 @@ use Rattle.rules.specs.Core.{countsIn}
 use Rattle.rules.proofs.Laws.Passes.{Which, which, yes′, no′, and-both}
 use Rattle.cells.specs.Layout.{cells, standing-cell, holder-cell, class-cell, nodeCell, maskCell, pointerCell, requestCell, forceCell, grantedCell, latestCell}
 use Rattle.cells.specs.Decode.{isNode, isHub, coreOf}
-use Rattle.cells.specs.Masks.{countsAt, stands}
+use Rattle.cells.specs.Masks.{standsIn, countsBy, countsAt, stands}
 use Rattle.refinement.specs.Kept.{countsOf, MasksRight, RightBut, Pointing, Kept, standingIn, Mended}
 use Rattle.refinement.proofs.Same.{counts-same, holder-no-mask, class-no-mask, standing-no-mask, pointer-no-mask, node-no-mask}
 
@@ -80,17 +80,34 @@ module _ (p : Plan) (D : Drawn p) (k : ℕ) (w : Within (p .nodes) k) (s r : Lis
   mask-cell true g u = c .same (maskCell true g) (λ e. omega arith) (omega arith)
   mask-cell false g u = c .same (maskCell false g) (λ e. omega arith) (omega arith)
 
-  pub right-but : (isHigh : Bool) → RightBut p k isHigh s → RightBut p k isHigh r
+  pub right-but : {old : ℕ} (isHigh : Bool) → RightBut p k old isHigh s → RightBut p k old isHigh r
   right-but isHigh b =
       record {
         earlier = b .earlier;
+        own = b .own;
         others = λ j d. others-count isHigh j d ∙ b .others j d;
         masks = λ g v. mask-cell isHigh g (omega (arith, v .up, D .few-hubs)) ∙ b .masks g v;
       }
 
+-- only a request that stands in a class counts there
+counts-stands : (isHigh : Bool) (x granted force : ℕ) → countsBy isHigh x granted force ≡ true → standsIn isHigh x ≡ true
+counts-stands false x granted force e = e
+counts-stands true x granted force e = and-both (standsIn true x) _ e .0
+
+own-stands : (p : Plan) (isHigh : Bool) (s : List ℕ) (k : ℕ) → countsOf p isHigh s k ≡ true → standsIn isHigh (getD s (requestCell k) 0) ≡ true
+own-stands p isHigh s k e = go (which (isNode p k))
+  where
+    here : (if isNode p k then countsAt isHigh k s else false) ≡ true
+    here = sym (counts-cells p isHigh s k) ∙ e
+
+    go : Which (isNode p k) → standsIn isHigh (getD s (requestCell k) 0) ≡ true
+    go (yes′ n) = counts-stands isHigh (getD s (requestCell k) 0) (getD s (grantedCell k) 0) (getD s (forceCell k) 0) (rw n at here)
+    go (no′ n) = absurd (true≢false (sym (rw n at here)))
+
 -- masks that are right are right but for any node
-pub kept-right : (p : Plan) (k : ℕ) (s : List ℕ) → Kept p s → (isHigh : Bool) → RightBut p k isHigh s
-kept-right p k s K isHigh = record { earlier = countsOf p isHigh s; others = λ j d. refl; masks = K .masks isHigh }
+pub kept-right : (p : Plan) (k : ℕ) (s : List ℕ) → Kept p s → (isHigh : Bool) → RightBut p k (getD s (requestCell k) 0) isHigh s
+kept-right p k s K isHigh =
+    record { earlier = countsOf p isHigh s; own = own-stands p isHigh s k; others = λ j d. refl; masks = K .masks isHigh }
 
 -- what is kept beside the masks
 pub record KeptBut (p : Plan) (s : List ℕ) : Type 0 where

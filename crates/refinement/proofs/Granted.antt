@@ -1,6 +1,6 @@
 -- Node k is granted in a class: its request is removed and, in class high, a grant is counted.
 use Prim.Native.Nat.{ℕ, _<_}
-use mathlib.Core.Path.{_≡_, refl, sym, ap, _∙_}
+use mathlib.Core.Path.{_≡_, refl, sym, ap, subst, _∙_}
 use mathlib.Core.Bool.{Bool, true, false}
 use mathlib.Core.List.{List}
 use native.Mathlib.Omega.{arith}
@@ -18,7 +18,7 @@ use Rattle.ports.specs.Mask.{digit}
 use Rattle.cells.specs.Layout.{standing-cell, nodeCell, grantedCell, classOf, requestOf, shareOf}
 use Rattle.cells.specs.Decode.{planIn, isNode, coreOf, controlOf}
 use Rattle.cells.specs.Masks.{stands, grantedMore, grantNode}
-use Rattle.refinement.specs.Kept.{Ready, Kept, standingIn}
+use Rattle.refinement.specs.Kept.{Ready, RightBut, Kept, standingIn}
 use Rattle.refinement.proofs.Changed.{Change, kept-but, kept-right, right-but}
 use Rattle.refinement.proofs.Requested.{Left, own-field, change-but, change-control, change-core, request-left}
 
@@ -100,7 +100,9 @@ module _ (P : List ℕ) (R : Ready P) (s : List ℕ) (K : Kept (planIn P) s) (k 
       let but = change-but (planIn P) (R .drawn) k w s counted counted-change (kept-but (planIn P) s K) counted-standing in
       let l =
       request-left P R counted (counted-change .size) k w
-      (λ b. right-but (planIn P) (R .drawn) k w s counted counted-change b (kept-right (planIn P) k s K b)) but 0 in
+      (λ b.
+      subst (λ (x : ℕ). RightBut (planIn P) k x b counted) (sym (counted-kept k 0 w (omega arith)))
+      (right-but (planIn P) (R .drawn) k w s counted counted-change b (kept-right (planIn P) k s K b))) but 0 in
       rw (le-ltb k 1 (w .low), le-ltb 256 k (omega (arith, w .up, R .drawn .few-nodes)))
       (record {
         kept = l .kept;

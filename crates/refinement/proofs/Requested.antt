@@ -5,7 +5,7 @@ use mathlib.Core.Path.{_≡_, refl, sym, ap, ap₂, subst, _∙_}
 use mathlib.Core.Bool.{Bool, true, false}
 use mathlib.Core.List.{List}
 use native.Mathlib.Omega.{arith}
-use borrow.Author.Tests.{le-ltb, eqb-true, eqb-false}
+use borrow.Author.Tests.{le-ltb}
 use lib.Dec.{eqb}
 use lib.ListN.{length, getD, set, length-set}
 use lib.Seq.{getD-set-same, getD-set-other}
@@ -19,9 +19,9 @@ use Rattle.rules.specs.Rows.{withRequest}
 use Rattle.rules.proofs.Laws.Passes.{Which, which, yes′, no′, put-same, put-other}
 use Rattle.cells.specs.Layout.{cells, two-32, timeAt, clock-cell, standing-cell, nodeCell, requestCell, pointerCell, classOf, requestOf, shareOf}
 use Rattle.cells.specs.Decode.{planIn, isNode, isHub, isClassHigh, lineOf, coreOf, controlOf}
-use Rattle.cells.specs.Masks.{standingAfter, putRequest, mendNode}
-use Rattle.refinement.specs.Kept.{Ready, RightBut, Kept, Pointing, standingIn}
-use Rattle.refinement.proofs.Same.{core-same, control-same}
+use Rattle.cells.specs.Masks.{standingAfter, putRequest}
+use Rattle.refinement.specs.Kept.{Ready, RightBut, Kept, Mended, Pointing, standingIn}
+use Rattle.refinement.proofs.Same.{agree, core-same, control-same}
 use Rattle.refinement.proofs.Mended.{mended}
 use Rattle.refinement.proofs.Changed.{Change, KeptBut, right-but, mended-kept, other-cell, node-within, within-node, hub-within}
 use Rattle.refinement.proofs.Standing.{standing-after}
@@ -49,14 +49,6 @@ core-path clock line request force latest granted i =
 pub own-field : (p : Plan) (k : ℕ) → Within (p .nodes) k → {A : Type 0} (read : ℕ → A) (default : A) (x : ℕ)
     → (if isNode p k then read x else default) ≡ read x
 own-field p k w read default x = rw (within-node p k w)
-
--- two tables that agree at k and elsewhere
-pub agree : {A : Type 0} {x y : ℕ → A} (k : ℕ) → x k ≡ y k → ((j : ℕ) → (j ≡ k → ⊥) → x j ≡ y j) → (j : ℕ) → x j ≡ y j
-agree {A} {x} {y} k here there j = go (which (eqb j k))
-  where
-    go : Which (eqb j k) → x j ≡ y j
-    go (yes′ e) = subst (λ (i : ℕ). x i ≡ y i) (sym (eqb-true j k e)) here
-    go (no′ e) = there j (eqb-false j k e)
 
 module _ (p : Plan) (D : Drawn p) (k : ℕ) (w : Within (p .nodes) k) (s r : List ℕ) (c : Change k s r) where
   header : (i : ℕ) → i < 7 → getD r i 0 ≡ getD s i 0
@@ -124,20 +116,18 @@ module _ (p : Plan) (D : Drawn p) (k : ℕ) (w : Within (p .nodes) k) (s r : Lis
       }
 
 -- with its masks mended, a table whose core and control are known is left
-pub mended-left : (P : List ℕ) (R : Ready P) (s : List ℕ) → length s ≡ cells → (k : ℕ) → Within (planIn P .nodes) k
-    → ((isHigh : Bool) → RightBut (planIn P) k isHigh s) → KeptBut (planIn P) s
-    → {c : Core} {σ : Control} → coreOf (planIn P) s ≡ c → controlOf (planIn P) s ≡ σ → Left (planIn P) (mendNode P k s) c σ
-mended-left P R s size k w but kept core control =
-    let m = mended P R s size k w but in
+mended-left : (p : Plan) → p .hubs ≤ 32 → (s r : List ℕ) → Mended p s r → KeptBut p s
+    → {c : Core} {σ : Control} → coreOf p s ≡ c → controlOf p s ≡ σ → Left p r c σ
+mended-left p few s r m kept core control =
     record {
-      kept = mended-kept (planIn P) (R .drawn .few-hubs) s (mendNode P k s) kept m;
-      core = core-same (planIn P) s (mendNode P k s) (m .same) ∙ core;
-      control = control-same (planIn P) (R .drawn .few-hubs) s (mendNode P k s) (m .same) ∙ control;
+      kept = mended-kept p few s r kept m;
+      core = core-same p s r (m .same) ∙ core;
+      control = control-same p few s r (m .same) ∙ control;
     }
 
 -- node k's request becomes x, where the masks are right but perhaps for k
 module _ (P : List ℕ) (R : Ready P) (s : List ℕ) (size : length s ≡ cells) (k : ℕ) (w : Within (planIn P .nodes) k)
-    (right : (isHigh : Bool) → RightBut (planIn P) k isHigh s) (K : KeptBut (planIn P) s) (x : ℕ) where
+    (right : (isHigh : Bool) → RightBut (planIn P) k (getD s (requestCell k) 0) isHigh s) (K : KeptBut (planIn P) s) (x : ℕ) where
   few-nodes : planIn P .nodes ≤ 256
   few-nodes = R .drawn .few-nodes
 
@@ -195,5 +185,7 @@ module _ (P : List ℕ) (R : Ready P) (s : List ℕ) (size : length s ≡ cells)
   unfolding putRequest asked number
   request-left =
       rw (le-ltb k 1 (w .low), le-ltb 256 k (omega (arith, w .up, few-nodes)))
-      (mended-left P R asked (asked-change .size) k w (λ isHigh. right-but (planIn P) (R .drawn) k w s asked asked-change isHigh (right isHigh))
+      (mended-left (planIn P) (R .drawn .few-hubs) asked _
+      (mended P R k w (getD s (requestCell k) 0) x asked (asked-change .size) asked-own
+      (λ isHigh. right-but (planIn P) (R .drawn) k w s asked asked-change isHigh (right isHigh)))
       asked-but asked-core (change-control (planIn P) (R .drawn) k w s asked asked-change))

@@ -17,7 +17,8 @@ use Rattle.cells.specs.Decode.{planIn, isNode, coreOf, controlOf}
 use Rattle.cells.specs.Masks.{countsBy, stands}
 use Rattle.refinement.specs.Kept.{Ready, countsOf, MasksRight, Kept, standingIn}
 use Rattle.refinement.proofs.Changed.{Change, kept-but, counts-cells, others-count, mask-cell}
-use Rattle.refinement.proofs.Requested.{Left, own-field, agree, change-but, change-control, change-core}
+use Rattle.refinement.proofs.Same.{agree}
+use Rattle.refinement.proofs.Requested.{Left, own-field, change-but, change-control, change-core}
 
 -- a reservation that was coded is read again
 pub share-read : (n b : ℕ) → b < 65536 → shareOf (shareCode n b) ≡ record { packets = n; bits = b }

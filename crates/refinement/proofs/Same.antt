@@ -1,14 +1,16 @@
 -- What a change of masks alone leaves: the core and the control that the cells are. No cell that they are read from is a mask's.
 use Prim.Native.Nat.{ℕ, _+_, _*_, _≤_, _<_}
-use mathlib.Core.Path.{_≡_, ap, ap₂, _∙_}
+use mathlib.Core.Path.{_≡_, sym, ap, ap₂, subst, _∙_}
 use mathlib.Core.Bool.{Bool, true, false}
 use mathlib.Core.List.{List}
 use native.Mathlib.Omega.{arith}
+use borrow.Author.Tests.{eqb-true, eqb-false}
 use lib.Dec.{eqb}
 use Rattle.rules.specs.Choice.{if_then_else_}
 use Rattle.rules.specs.Plan.{Plan}
 use Rattle.rules.specs.Core.{Core, none, nothing-reserved, resting, busy, countsIn}
 use Rattle.rules.specs.Control.{atPort}
+use Rattle.rules.proofs.Laws.Passes.{Which, which, yes′, no′}
 use Rattle.cells.specs.Layout.{two-32, timeAt, clock-cell, end-cell, busy-cell, holder-cell, class-cell, standing-cell, nodeCell, pointerCell, classOf, requestOf, shareOf, pointerOf, forceCell, grantedCell, latestCell, requestCell}
 use Rattle.cells.specs.Decode.{isNode, isHub, isClassHigh, lineOf, coreOf, controlOf}
 use Rattle.refinement.specs.Kept.{NoMask, SameButMasks, countsOf}
@@ -77,3 +79,11 @@ control-same p few s r same =
 
 pub same-trans : (s r t : List ℕ) → SameButMasks s r → SameButMasks r t → SameButMasks s t
 same-trans s r t first second i n = second i n ∙ first i n
+
+-- two tables that agree at k and elsewhere
+pub agree : {A : Type 0} {x y : ℕ → A} (k : ℕ) → x k ≡ y k → ((j : ℕ) → (j ≡ k → ⊥) → x j ≡ y j) → (j : ℕ) → x j ≡ y j
+agree {A} {x} {y} k here there j = go (which (eqb j k))
+  where
+    go : Which (eqb j k) → x j ≡ y j
+    go (yes′ e) = subst (λ (i : ℕ). x i ≡ y i) (sym (eqb-true j k e)) here
+    go (no′ e) = there j (eqb-false j k e)

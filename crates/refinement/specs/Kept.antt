@@ -2,7 +2,7 @@
 -- they are: the masks are right, and so is the number of standing requests.
 use Prim.Native.Nat.{ℕ, _≤_}
 use mathlib.Core.Path.{_≡_}
-use mathlib.Core.Bool.{Bool, _&&_}
+use mathlib.Core.Bool.{Bool, true, _&&_}
 use mathlib.Core.List.{List}
 use lib.Dec.{leb}
 use lib.ListN.{length, getD}
@@ -17,7 +17,7 @@ use Rattle.plan_tree.specs.Tables.{hubOfNode, portOfNode}
 use Rattle.plan_theory.specs.Taken.{Holds}
 use Rattle.cells.specs.Layout.{cells, standing-cell, holder-cell, class-cell, maskCell, pointerCell, requestCell, classOf}
 use Rattle.cells.specs.Decode.{planIn, coreOf}
-use Rattle.cells.specs.Masks.{stands}
+use Rattle.cells.specs.Masks.{standsIn, stands}
 
 -- what the theorems ask of a plan's cells: they are a drawn plan's, the root
 -- has no parent, and a node's own cells name the one port that holds it
@@ -64,9 +64,10 @@ NoMask i = (isHigh : Bool) (g : ℕ) → Within 32 g → i ≡ maskCell isHigh g
 abbrev pub SameButMasks : List ℕ → List ℕ → Type 0
 SameButMasks s r = (i : ℕ) → NoMask i → getD r i 0 ≡ getD s i 0
 
--- the masks are right for what counts, but perhaps for node k
-pub record RightBut (p : Plan) (k : ℕ) (isHigh : Bool) (s : List ℕ) : Type 0 where
+-- the masks are right for what counts, but perhaps for node k, whose request was `old` when they were
+pub record RightBut (p : Plan) (k old : ℕ) (isHigh : Bool) (s : List ℕ) : Type 0 where
   pub earlier : ℕ → Bool
+  pub own : earlier k ≡ true → standsIn isHigh old ≡ true
   pub others : (j : ℕ) → (j ≡ k → ⊥) → countsOf p isHigh s j ≡ earlier j
   pub masks : MasksRight p isHigh earlier s
 

@@ -52,7 +52,7 @@ expected =
     record {
       told = taken ∷ taken ∷ grant 99000 1 normal 100512 1 ∷ taken ∷ taken ∷ taken ∷ [];
       looked = 0 ∷ 0 ∷ 2 ∷ 0 ∷ 0 ∷ 0 ∷ [];
-      written = 0 ∷ 3 ∷ 3 ∷ 3 ∷ 11 ∷ 4 ∷ [];
+      written = 0 ∷ 2 ∷ 2 ∷ 2 ∷ 11 ∷ 4 ∷ [];
       in-frame = 4;
       at-start = 7;
     }

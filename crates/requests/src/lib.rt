@@ -5,9 +5,9 @@ use plan_tree::Plan;
 ghost use mathlib.Core.Path.{_≡_};
 ghost use mathlib.Core.Bool.{true, false};
 ghost use Prim.Native.Nat.{_+_, _*_, _≤_};
-ghost use Rattle.rules.specs.Plan.{most-hubs};
+ghost use Rattle.rules.specs.Plan.{most-nodes, most-hubs};
 ghost use Rattle.cells.specs.Layout.{two-32, timeAt, putTime, clock-cell, end-cell};
-ghost use Rattle.cells.specs.Masks.{countsBy, alike, mend, mendNode, standingAfter, putRequest, grantedMore, grantNode};
+ghost use Rattle.cells.specs.Masks.{countsBy, alike, mend, mendBit, mendClass, standingAfter, putRequest, grantedMore, grantNode};
 ghost use Rattle.cells.specs.Fresh.{pointed, freshCells};
 ghost use Rattle.cells.specs.Calls.{busyUntil};
 
@@ -101,34 +101,56 @@ fn mend(p: &Plan, s: &mut Cascade, high: bool, g: u32, q: u32, b: bool, levels: 
     );
 }
 
-// Both classes' bits of node k, by what its cells say.
-pub fn mend_node(p: &Plan, s: &mut Cascade, k: u32)
-    ensures { λ _. ⌜ now (s .exit) ≡ mendNode (now (p .entry)) k (now (s .entry)) ⌝ }
+// Node k's bit in a class, by its request x and what its cells say beside it.
+fn put_bit(p: &Plan, s: &mut Cascade, high: bool, k: u32, x: u32)
+    requires { ⌜ (1 ≤ k) × (k ≤ most-nodes) ⌝ }
+    ensures { λ _. ⌜ now (s .exit) ≡ mendBit (now (p .entry)) high k x (now (s .entry)) ⌝ }
 {
-    if k < 1 {
-        return;
-    }
-    if cells::MOST_NODES < k {
-        return;
-    }
     let at = k as usize - 1;
-    let own = plan_tree::NODES + (k as usize - 1) * plan_tree::PER_NODE;
-    let normal = counts(
-        false,
-        s[cells::REQUEST + at],
-        s[cells::GRANTED + at],
-        s[cells::FORCE + at],
+    let own = plan_tree::NODES + at * plan_tree::PER_NODE;
+    let b = counts(high, x, s[cells::GRANTED + at], s[cells::FORCE + at]);
+    mend(
+        p,
+        s,
+        high,
+        p[own + plan_tree::NODE_HUB],
+        p[own + plan_tree::NODE_PORT],
+        b,
+        5,
     );
-    let high = counts(
-        true,
-        s[cells::REQUEST + at],
-        s[cells::GRANTED + at],
-        s[cells::FORCE + at],
-    );
-    let g = p[own + plan_tree::NODE_HUB];
-    let q = p[own + plan_tree::NODE_PORT];
-    mend(p, s, false, g, q, normal, 5);
-    mend(p, s, true, g, q, high, 5);
+}
+
+// Node k's bits where x came in place of `old`. Each way through the tests names its class, and so
+// the compiler knows the bit there: nearly always one of the two requests stands and one class is concerned.
+fn put_bits(p: &Plan, s: &mut Cascade, k: u32, old: u32, x: u32)
+    requires { ⌜ (1 ≤ k) × (k ≤ most-nodes) ⌝ }
+    ensures { λ _. ⌜ now (s .exit) ≡ mendClass (now (p .entry)) true k old x (mendClass (now (p .entry)) false k old x (now (s .entry))) ⌝ }
+{
+    if x < cells::NORMAL {
+        if old < cells::NORMAL {
+            return;
+        }
+        if old < cells::HIGH {
+            put_bit(p, s, false, k, x);
+            return;
+        }
+        put_bit(p, s, true, k, x);
+        return;
+    }
+    if x < cells::HIGH {
+        put_bit(p, s, false, k, x);
+        if old < cells::HIGH {
+            return;
+        }
+        put_bit(p, s, true, k, x);
+        return;
+    }
+    if old < cells::NORMAL || cells::HIGH <= old {
+        put_bit(p, s, true, k, x);
+        return;
+    }
+    put_bit(p, s, false, k, x);
+    put_bit(p, s, true, k, x);
 }
 
 // The number of standing requests where a request's cell changes.
@@ -158,9 +180,10 @@ pub fn put_request(p: &Plan, s: &mut Cascade, k: u32, x: u32)
         return;
     }
     let at = cells::REQUEST + (k as usize - 1);
-    s[cells::STANDING] = standing_after(s[cells::STANDING], s[at], x);
+    let old = s[at];
+    s[cells::STANDING] = standing_after(s[cells::STANDING], old, x);
     s[at] = x;
-    mend_node(p, s, k);
+    put_bits(p, s, k, old, x);
 }
 
 fn granted_more(high: bool, n: u32) -> u32

@@ -1,6 +1,7 @@
 -- No mask changes that isn't counted: each count is at least the masks that its definition changes, for every content of both tables.
 use Prim.Native.Nat.{ℕ, zero, suc, _+_, _-_, _/_, _≤_}
-use mathlib.Core.Bool.{Bool, true, false}
+use mathlib.Core.Path.{_≡_, refl}
+use mathlib.Core.Bool.{Bool, true, false, _||_}
 use mathlib.Core.List.{List}
 use native.Mathlib.Omega.{arith}
 use native.Mathlib.Nat.{min-le-right}
@@ -28,13 +29,13 @@ use Rattle.cells.specs.declared.Sought.{Sought}
 use Rattle.cells.specs.declared.Sought.the-variants as seek
 use Rattle.cells.specs.Layout.{clock-cell, end-cell, busy-cell, holder-cell, class-cell, standing-cell, maskCell, pointerCell, requestCell, forceCell, latestCell, grantedCell, putTime, requestCode, shareCode, unmarkedCode, markedCode}
 use Rattle.cells.specs.Decode.{planIn}
-use Rattle.cells.specs.Masks.{countsAt, maskWith, alike, mend, mendNode, stands, standingAfter, putRequest, grantedMore, grantNode}
+use Rattle.cells.specs.Masks.{stands, standsIn, countsBy, maskWith, alike, mend, mendBit, mendClass, standingAfter, putRequest, grantedMore, grantNode}
 use Rattle.cells.specs.Build.{clearMasks, showPort, showRequest, showNodes, summary, showHub, showHubs, hubsIn, buildMasks}
 use Rattle.cells.specs.Frames.{startCells, startNodes, startFrame, newFrame, advanceBy}
 use Rattle.cells.specs.Instants.{dueBy, soughtBy}
 use Rattle.cells.specs.Turns.{Looked, Turned, downBy, takeBy, upBy, handUpBy, foundBy, lookBy, afterLook, walkBy, turningBy, climbBy, walked, settled, chooseBy}
 use Rattle.cells.specs.Calls.{rowBy, changeBy, eventBy, busyUntil, resting, grantBy, restBy, handledBy, stepDue, stepBy, eventLeft, performBy}
-use Rattle.cells.specs.Written.{mendWrites, mendNodeWrites, putRequestWrites, grantNodeWrites, clearWrites, showPortWrites, showNodesWrites, showHubWrites, showHubsWrites, buildWrites, advanceWrites, changeWrites, eventWrites, grantWrites, handledWrites, stepDueWrites, stepWrites, callWrites}
+use Rattle.cells.specs.Written.{mendWrites, mendBitWrites, mendClassWrites, putRequestWrites, grantNodeWrites, clearWrites, showPortWrites, showNodesWrites, showHubWrites, showHubsWrites, buildWrites, advanceWrites, changeWrites, eventWrites, grantWrites, handledWrites, stepDueWrites, stepWrites, callWrites}
 use Rattle.refinement.proofs.Same.{low-no-mask, node-no-mask, pointer-no-mask}
 use Rattle.refinement.proofs.Written.Changed.{Wrote, wrote-stay, wrote-off, wrote-then, wrote-behind, wrote-before, wrote-one, wrote-if, wrote-hub, wrote-node}
 
@@ -64,22 +65,24 @@ module _ (P : List ℕ) where
       (wrote-then (wrote-one isHigh g mask s w)
       (mend-counted isHigh levels (getD P (plan.parentCell g) 0) (getD P (plan.placeCell g) 0) (anyPort (shows mask)) left)))
 
-  node-counted : (k : ℕ) (s : List ℕ) → Wrote (mendNodeWrites P k s) s (mendNode P k s)
-  unfolding mendNode mendNodeWrites
-  node-counted k s =
-      let g = plan.hubOfNode P k in
-      let q = plan.portOfNode P k in
-      wrote-node k
-      (wrote-then (mend-counted false most-levels g q (countsAt false k s) s)
-      (mend-counted true most-levels g q (countsAt true k s) (mend P false most-levels g q (countsAt false k s) s)))
+  class-counted : (isHigh : Bool) (k old x : ℕ) (s : List ℕ) → Wrote (mendClassWrites P isHigh k old x s) s (mendClass P isHigh k old x s)
+  unfolding mendClass mendClassWrites mendBit mendBitWrites
+  class-counted isHigh k old x s =
+      wrote-if (standsIn isHigh x || standsIn isHigh old)
+      (mend-counted isHigh most-levels (plan.hubOfNode P k) (plan.portOfNode P k)
+      (countsBy isHigh x (getD s (grantedCell k) 0) (getD s (forceCell k) 0)) s)
+      wrote-stay
 
   request-counted : (k x : ℕ) (s : List ℕ) → Wrote (putRequestWrites P k x s) s (putRequest P k x s)
   unfolding putRequest putRequestWrites
   request-counted k x s =
-      let n = standingAfter (getD s standing-cell 0) (getD s (requestCell k) 0) x in
+      let old = getD s (requestCell k) 0 in
+      let n = standingAfter (getD s standing-cell 0) old x in
+      let left = set (set s standing-cell n) (requestCell k) x in
       wrote-node k
       (wrote-behind (wrote-off s standing-cell n (low-no-mask standing-cell (omega arith)))
-      (wrote-behind (wrote-off (set s standing-cell n) (requestCell k) x (node-no-mask k 0)) (node-counted k (set (set s standing-cell n) (requestCell k) x))))
+      (wrote-behind (wrote-off (set s standing-cell n) (requestCell k) x (node-no-mask k 0))
+      (wrote-then (class-counted false k old x left) (class-counted true k old x (mendClass P false k old x left)))))
 
   grant-counted : (isHigh : Bool) (k : ℕ) (s : List ℕ) → Wrote (grantNodeWrites P isHigh k s) s (grantNode P isHigh k s)
   unfolding grantNode grantNodeWrites

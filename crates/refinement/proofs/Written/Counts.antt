@@ -1,7 +1,7 @@
 -- The mask cells that a change at one node writes, and those that a frame's start writes.
 use Prim.Native.Nat.{ℕ, zero, suc, _+_, _-_, _*_, _≤_}
 use mathlib.Core.Path.{_≡_, refl, sym, ap, _∙_}
-use mathlib.Core.Bool.{Bool, true, false}
+use mathlib.Core.Bool.{Bool, true, false, _||_}
 use mathlib.Core.List.{List}
 use mathlib.Core.Logic.{⊎-elim}
 use native.Mathlib.Omega.{arith}
@@ -20,11 +20,11 @@ use Rattle.ports.specs.Ports.{anyPort}
 use Rattle.ports.specs.Mask.{shows}
 use Rattle.plan_tree.specs.Tables as plan
 use Rattle.plan.specs.Tables.{planOf}
-use Rattle.cells.specs.Layout.{standing-cell, maskCell, requestCell, grantedCell}
+use Rattle.cells.specs.Layout.{standing-cell, maskCell, requestCell, forceCell, grantedCell}
 use Rattle.cells.specs.Decode.{planIn}
-use Rattle.cells.specs.Masks.{countsAt, maskWith, alike, mend, standingAfter, grantedMore}
+use Rattle.cells.specs.Masks.{standsIn, countsBy, maskWith, alike, mendClass, standingAfter, grantedMore}
 use Rattle.cells.specs.Build.{hubsIn}
-use Rattle.cells.specs.Written.{mendWrites, mendNodeWrites, putRequestWrites, grantNodeWrites, clearWrites, showPortWrites, showNodesWrites, showHubWrites, showHubsWrites, buildWrites}
+use Rattle.cells.specs.Written.{mendWrites, mendBitWrites, mendClassWrites, putRequestWrites, grantNodeWrites, clearWrites, showPortWrites, showNodesWrites, showHubWrites, showHubsWrites, buildWrites}
 use Rattle.refinement.specs.Kept.{Ready}
 use Rattle.refinement.specs.Written.{mostInFrame, mostAtStart}
 
@@ -88,25 +88,29 @@ module _ (P : List ℕ) (R : Ready P) where
 
   -- a change at node k
   module _ (k : ℕ) (w : Within (p .nodes) k) where
-    node-few : (s : List ℕ) → mendNodeWrites P k s ≤ mostInFrame p
-    unfolding mendNodeWrites FewAt
-    node-few s =
-        let g = plan.hubOfNode P k in
-        let q = plan.portOfNode P k in
-        let h = R .node-port k w .hub in
-        rw (le-ltb k 1 (w .low), le-ltb 256 k (omega (arith, w .up, D .few-nodes)))
-        (omega (
-          arith,
-          level-up p D g h,
-          mend-few true most-levels g q (countsAt true k s) (mend P false most-levels g q (countsAt false k s) s) h,
-          mend-few false most-levels g q (countsAt false k s) s h,
-        ))
+    class-few : (isHigh : Bool) (old x : ℕ) (s : List ℕ) → mendClassWrites P isHigh k old x s ≤ levels p
+    unfolding mendClassWrites mendBitWrites FewAt
+    class-few isHigh old x s = go (which (standsIn isHigh x || standsIn isHigh old))
+      where
+        go : Which (standsIn isHigh x || standsIn isHigh old)
+            → (if standsIn isHigh x || standsIn isHigh old then mendBitWrites P isHigh k x s else 0) ≤ levels p
+        go (yes′ e) =
+            rw e
+            (omega (
+              arith,
+              level-up p D (plan.hubOfNode P k) (R .node-port k w .hub),
+              mend-few isHigh most-levels (plan.hubOfNode P k) (plan.portOfNode P k)
+                  (countsBy isHigh x (getD s (grantedCell k) 0) (getD s (forceCell k) 0)) s (R .node-port k w .hub),
+            ))
+        go (no′ e) = rw e (omega arith)
 
     pub request-few : (x : ℕ) (s : List ℕ) → putRequestWrites P k x s ≤ mostInFrame p
     unfolding putRequestWrites
     request-few x s =
+        let old = getD s (requestCell k) 0 in
+        let left = set (set s standing-cell (standingAfter (getD s standing-cell 0) old x)) (requestCell k) x in
         rw (le-ltb k 1 (w .low), le-ltb 256 k (omega (arith, w .up, D .few-nodes)))
-        (node-few (set (set s standing-cell (standingAfter (getD s standing-cell 0) (getD s (requestCell k) 0) x)) (requestCell k) x))
+        (omega (arith, class-few true old x (mendClass P false k old x left), class-few false old x left))
 
     pub grant-few : (isHigh : Bool) (s : List ℕ) → grantNodeWrites P isHigh k s ≤ mostInFrame p
     unfolding grantNodeWrites

@@ -11,7 +11,7 @@ use Rattle.plan.specs.Tables.{putFigures, planOf}
 use Rattle.cells.specs.Layout.{putTime}
 use Rattle.cells.specs.Decode.{coreOf}
 use Rattle.cells.specs.Fresh.{pointed, freshCells}
-use Rattle.cells.specs.Masks.{mend, mendNode, putRequest, grantNode}
+use Rattle.cells.specs.Masks.{mend, mendBit, mendClass, putRequest, grantNode}
 use Rattle.cells.specs.Build.{clearMasks, showPort, showRequest, showNodes, showHub, showHubs, buildMasks}
 use Rattle.cells.specs.Frames.{startCells, startNodes, startFrame, advanceBy}
 use Rattle.cells.specs.Instants.{soughtBy, restingDue, dueBy}
@@ -19,18 +19,18 @@ use Rattle.cells.specs.Turns.{downBy, takeBy, upBy, handUpBy, foundBy, lookBy, 
 use Rattle.cells.specs.Calls.{rowsBy, rowBy, changeBy, eventBy, busyUntil, resting, grantBy, restBy, handledBy, stepDue, stepBy, stepAnswer, eventLeft, performBy}
 use Rattle.cells.specs.Run.{madeBy}
 use Rattle.cells.specs.Looks.{walkByLooks, nearestByLooks, walkedLooks, handledLooks, stepDueLooks, stepLooks, looksBy}
-use Rattle.cells.specs.Written.{mendWrites, mendNodeWrites, putRequestWrites, grantNodeWrites, clearWrites, showNodesWrites, showHubWrites, showHubsWrites, buildWrites, advanceWrites, changeWrites, eventWrites, grantWrites, handledWrites, stepDueWrites, stepWrites, callWrites}
+use Rattle.cells.specs.Written.{mendWrites, mendBitWrites, mendClassWrites, putRequestWrites, grantNodeWrites, clearWrites, showNodesWrites, showHubWrites, showHubsWrites, buildWrites, advanceWrites, changeWrites, eventWrites, grantWrites, handledWrites, stepDueWrites, stepWrites, callWrites}
 use Rattle.refinement.specs.WrittenRuns.{each, figures, AsWorked}
 
 pub as-worked : AsWorked
 unfolding
     any sum first advance deepest shows maskUpTo withPort putPort atOrAfter anyUpTo firstOf lowestFrom
     putNode putHub putPorts putRoot putFigures planOf putTime coreOf pointed freshCells
-    mend mendNode putRequest grantNode clearMasks showPort showRequest showNodes showHub showHubs buildMasks startCells startNodes startFrame advanceBy
+    mend mendBit mendClass putRequest grantNode clearMasks showPort showRequest showNodes showHub showHubs buildMasks startCells startNodes startFrame advanceBy
     soughtBy restingDue dueBy
     downBy takeBy upBy handUpBy foundBy lookBy afterLook walkBy nearerBy nearestBy walked settled chooseBy
     rowsBy rowBy changeBy eventBy busyUntil resting grantBy restBy handledBy stepDue stepBy stepAnswer eventLeft performBy madeBy
     walkByLooks nearestByLooks walkedLooks handledLooks stepDueLooks stepLooks looksBy
-    mendWrites mendNodeWrites putRequestWrites grantNodeWrites clearWrites showNodesWrites showHubWrites showHubsWrites buildWrites
+    mendWrites mendBitWrites mendClassWrites putRequestWrites grantNodeWrites clearWrites showNodesWrites showHubWrites showHubsWrites buildWrites
     advanceWrites changeWrites eventWrites grantWrites handledWrites stepDueWrites stepWrites callWrites each figures
 as-worked = refl

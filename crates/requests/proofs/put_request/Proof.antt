@@ -20,14 +20,14 @@ sub-at c = search needs
 add-at : tie.Need-add-at
 add-at c = search needs
 
+mul-old : tie.Need-mul-old
+mul-old c = search needs
+
+element-copy-out-old : tie.Need-element-copy-out-old
+element-copy-out-old c = search needs
+
 element-copy-out-standing-after : tie.Need-element-copy-out-standing-after
 element-copy-out-standing-after c = search needs
-
-mul-standing-after : tie.Need-mul-standing-after
-mul-standing-after c = search needs
-
-element-copy-out-standing-after-2 : tie.Need-element-copy-out-standing-after-2
-element-copy-out-standing-after-2 c = search needs
 
 standing-after-requires : tie.Need-standing-after-requires
 standing-after-requires c κs = search needs
@@ -41,8 +41,8 @@ mul-s c = search needs
 element-write-s-2 : tie.Need-element-write-s-2
 element-write-s-2 c = search needs
 
-mend-node-requires : tie.Need-mend-node-requires
-mend-node-requires c κs = search needs
+put-bits-requires : tie.Need-put-bits-requires
+put-bits-requires c κs = search needs
 
 returns-3 : tie.Need-returns-3
 returns-3 c =
@@ -50,7 +50,7 @@ returns-3 c =
     let inside = told .before .before .before in
     let a = inside .before .before .args in
     requested (a .p .now) (a .k) (a .s .now) (a .x) (inside .before .if1 .left) (inside .if2 .left)
-    (told .standing-after .result) (c .mend-node .last .1 .0) (told .standing-after .ensures) (c .mend-node .ensures)
+    (told .standing-after .result) (c .put-bits .last .1 .0) (told .standing-after .ensures) (c .put-bits .ensures)
 
 pub put-request-spec : {M : Type 1} → statement M
 put-request-spec =
@@ -60,12 +60,12 @@ put-request-spec =
     returns-2
     sub-at
     add-at
+    mul-old
+    element-copy-out-old
     element-copy-out-standing-after
-    mul-standing-after
-    element-copy-out-standing-after-2
     standing-after-requires
     element-write-s
     mul-s
     element-write-s-2
-    mend-node-requires
+    put-bits-requires
     returns-3)
