@@ -27,8 +27,7 @@ nobody-requires c κs = search needs
 
 returns : tie.Need-returns
 returns c =
-    let a = c .before .before .before .before .args in
-    (
+    let a = c .before .before .before .before .args in (
       class-kept (a .p .now) (a .high) (a .s .now) (c .before .if1 .taken ∙ byte-digit (a .high))
           ∙ ap₂ (λ (g n : ℕ). walkBy (a .p .now) (a .high) most-looks g n (a .s .now)) (omega (arith, ap (λ (t : Turn). t .hub) (c .nobody .ensures)))
           (omega (arith, ap (λ (t : Turn). t .moves) (c .nobody .ensures))),
@@ -49,10 +48,9 @@ returns-2 c =
     let m = c .before in
     let w = m .before in
     let tested = w .before in
-    let a = tested .before .before .before .args in
-    (
+    let a = tested .before .before .before .args in (
       class-changed (a .p .now) (a .high) (a .s .now) (λ f. tested .if1 .left (f ∙ sym (byte-digit (a .high)))) (w .nearest .result)
-      (m .climb-to .result) (w .nearest .ensures) (omega (arith, m .climb-to .ensures .0))
+          (m .climb-to .result) (w .nearest .ensures) (omega (arith, m .climb-to .ensures .0))
           ∙ ap₂ (λ (g n : ℕ). walkBy (a .p .now) (a .high) most-looks g n (a .s .now)) (omega (arith, ap (λ (t : Turn). t .hub) (c .nobody2 .ensures)))
           (omega (arith, ap (λ (t : Turn). t .moves) (c .nobody2 .ensures))),
       omega (arith, ap (λ (t : Turn). t .moves) (c .nobody2 .ensures), m .climb-to .ensures .1),
