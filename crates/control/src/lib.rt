@@ -8,9 +8,10 @@ use plan_tree::Plan;
 use ports::Found;
 ghost use mathlib.Core.Path.{_≡_};
 ghost use mathlib.Core.Bool.{false};
-ghost use Prim.Native.Nat.{_+_, _-_, _≤_, _<_};
+ghost use Prim.Native.Nat.{_-_, _≤_, _<_};
 ghost use lib.ListN.{getD, set};
 ghost use Rattle.rules.specs.Plan.{most-hubs, most-ports};
+ghost use Rattle.rules.specs.Control.{most-looks};
 ghost use Rattle.plan_tree.specs.Tables.{portOf, portCell};
 ghost use Rattle.cells.specs.Layout.{maskCell, pointerCell, nodeCell};
 ghost use Rattle.cells.specs.Turns.{downBy, takeBy, upBy, handUpBy, lookBy, walkBy, climbBy, nearerBy, nearestBy, walked, settled, chooseBy};
@@ -69,19 +70,19 @@ fn take(p: &Plan, s: &mut Cascade, high: bool, g: u32, q: u32) -> Look
     let x = p[plan_tree::HUBS
         + (g as usize - 1) * plan_tree::PER_HUB
         + (plan_tree::PORT + q as usize)];
+    if plan_tree::HUB_CODE < x {
+        let h = x - plan_tree::HUB_CODE;
+        if cells::MOST_HUBS < h {
+            return Look::Stop;
+        }
+        go_down(s, high, g, q, h);
+        return Look::Pass(h);
+    }
     if x == plan_tree::EMPTY {
         return Look::Stop;
     }
-    if x <= plan_tree::HUB_CODE {
-        point(s, high, g, (q + 1) * cells::PER_PORT);
-        return Look::Node(x);
-    }
-    let h = x - plan_tree::HUB_CODE;
-    if cells::MOST_HUBS < h {
-        return Look::Stop;
-    }
-    go_down(s, high, g, q, h);
-    Look::Pass(h)
+    point(s, high, g, (q + 1) * cells::PER_PORT);
+    Look::Node(x)
 }
 
 // Rule 4 at a lower hub that stands at port q of hub h.
@@ -102,14 +103,15 @@ fn go_up(s: &mut Cascade, high: bool, h: u32, q: u32) -> Look
     Look::Pass(h)
 }
 
-// Rule 4 at hub g: the root goes to port 1, another hands control up.
-fn hand_up(p: &Plan, s: &mut Cascade, high: bool, g: u32) -> Look
+// Rule 4 at hub g, whose mask stands at `at`: the root goes to port 1, another hands control up.
+fn hand_up(p: &Plan, s: &mut Cascade, high: bool, g: u32, at: usize) -> Look
     requires { ⌜ (1 ≤ g) × (g ≤ most-hubs) ⌝ }
+    requires { ⌜ (at ≡ maskCell high g) × (at < pointerCell false most-hubs) ⌝ }
     ensures { λ r. ⌜ r ≡ handUpBy (now (p .entry)) high g (now (s .entry)) .look ⌝ }
     ensures { λ r. ⌜ now (s .exit) ≡ handUpBy (now (p .entry)) high g (now (s .entry)) .cells ⌝ }
 {
     if g == 1 {
-        point(s, high, 1, cells::PORT_1);
+        s[at + cells::POINTER] = cells::PORT_1;
         return Look::Round;
     }
     let own = plan_tree::HUBS + (g as usize - 1) * plan_tree::PER_HUB;
@@ -130,52 +132,57 @@ fn look(p: &Plan, s: &mut Cascade, high: bool, g: u32) -> Look
     let at = mask_cell(high, g);
     match ports::lowest(s[at], s[at + cells::POINTER] / cells::PER_PORT) {
         Found::Port(q) => take(p, s, high, g, q),
-        Found::Nothing => hand_up(p, s, high, g),
+        Found::Nothing => hand_up(p, s, high, g, at),
     }
 }
 
-// Rules 3 and 4, repeated, with control at hub g: at most `looks` looks at a hub.
-fn walk(p: &Plan, s: &mut Cascade, high: bool, g: u32, moves: u64, looks: u32) -> Turn
-    requires { ⌜ moves + looks < 9223372036854775808 ⌝ }
-    ensures { λ r. ⌜ r ≡ walkBy (now (p .entry)) high looks g moves (now (s .entry)) .turn ⌝ }
-    ensures { λ r. ⌜ now (s .exit) ≡ walkBy (now (p .entry)) high looks g moves (now (s .entry)) .cells ⌝ }
-    ensures { λ r. ⌜ r .moves ≤ moves + looks ⌝ }
+// A turn that nobody has, or not yet: control at a hub, after so many moves.
+fn nobody(hub: u32, moves: u64) -> Turn
+    ensures { λ r. ⌜ r ≡ record { node = 0; hub = hub; moves = moves } ⌝ }
 {
-    if looks == 0 {
-        return Turn {
-            node: 0,
-            hub: g,
-            moves,
-        };
+    Turn {
+        node: 0,
+        hub,
+        moves,
     }
-    if g < 1 {
-        return Turn {
-            node: 0,
-            hub: g,
-            moves,
-        };
+}
+
+// Rules 3 and 4, repeated, with control at hub `from` after so many moves. A loop with one call of it keeps the turn in registers:
+// a walk that calls itself hands its answer back through memory at each look.
+fn walk(p: &Plan, s: &mut Cascade, high: bool, from: u32, before: u64) -> Turn
+    requires { ⌜ before < 4294967296 ⌝ }
+    ensures { λ r. ⌜ r ≡ walkBy (now (p .entry)) high most-looks from before (now (s .entry)) .turn ⌝ }
+    ensures { λ r. ⌜ now (s .exit) ≡ walkBy (now (p .entry)) high most-looks from before (now (s .entry)) .cells ⌝ }
+{
+    let mut g = from;
+    let mut moves = before;
+    let mut looks: u32 = 15;
+    while looks != 0 {
+        if g < 1 || cells::MOST_HUBS < g {
+            return nobody(g, moves);
+        }
+        looks -= 1;
+        match look(p, s, high, g) {
+            Look::Node(k) => {
+                return Turn {
+                    node: k,
+                    hub: g,
+                    moves,
+                };
+            }
+            Look::Pass(h) => {
+                g = h;
+                moves += 1;
+            }
+            Look::Round => {
+                g = 1;
+            }
+            Look::Stop => {
+                return nobody(g, moves);
+            }
+        }
     }
-    if cells::MOST_HUBS < g {
-        return Turn {
-            node: 0,
-            hub: g,
-            moves,
-        };
-    }
-    match look(p, s, high, g) {
-        Look::Node(k) => Turn {
-            node: k,
-            hub: g,
-            moves,
-        },
-        Look::Pass(h) => walk(p, s, high, h, moves + 1, looks - 1),
-        Look::Round => walk(p, s, high, 1, moves, looks - 1),
-        Look::Stop => Turn {
-            node: 0,
-            hub: g,
-            moves,
-        },
-    }
+    nobody(g, moves)
 }
 
 // Moves from a hub of a level up to the root: one for each level.
@@ -260,18 +267,18 @@ fn nearest(p: &Plan, s: &Cascade, high: bool, g: u32, q: u32, t: u32, levels: u3
     )
 }
 
-// Rule 2: where the class sought differs from that of the latest grant, control goes up to the nearest hub first.
-fn walk_from(p: &Plan, s: &mut Cascade, high: bool) -> Turn
-    ensures { λ r. ⌜ r ≡ walked (now (p .entry)) high (now (s .entry)) .turn ⌝ }
-    ensures { λ r. ⌜ now (s .exit) ≡ walked (now (p .entry)) high (now (s .entry)) .cells ⌝ }
+// Rule 2: where the class sought differs from that of the latest grant, control goes up to the nearest hub first. The walk starts there.
+fn start(p: &Plan, s: &Cascade, high: bool) -> Turn
+    ensures { λ r. ⌜ walked (now (p .entry)) high (now (s .entry)) ≡ walkBy (now (p .entry)) high most-looks (r .hub) (r .moves) (now (s .entry)) ⌝ }
+    ensures { λ r. ⌜ r .moves < 4294967296 ⌝ }
 {
     let holder = s[cells::HOLDER];
     if s[cells::CLASS] == high as u32 {
-        return walk(p, s, high, holder, 0, 15);
+        return nobody(holder, 0);
     }
     let hub = nearest(p, s, high, holder, 0, holder, 5);
     let moves = climb_to(p, holder, hub);
-    walk(p, s, high, hub, moves, 15)
+    nobody(hub, moves)
 }
 
 // Who has control after a turn, and of what class the latest grant was.
@@ -290,7 +297,8 @@ pub fn choose(p: &Plan, s: &mut Cascade, high: bool) -> Turn
     ensures { λ r. ⌜ r ≡ chooseBy (now (p .entry)) high (now (s .entry)) .turn ⌝ }
     ensures { λ r. ⌜ now (s .exit) ≡ chooseBy (now (p .entry)) high (now (s .entry)) .cells ⌝ }
 {
-    let t = walk_from(p, s, high);
+    let from = start(p, s, high);
+    let t = walk(p, s, high, from.hub, from.moves);
     settle(s, high, t);
     t
 }
