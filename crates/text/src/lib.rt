@@ -2,7 +2,7 @@
 // A text is a slice of bytes and places in it are numbers from 0. No public function has a `requires`: each says its whole answer
 // for every input, by a definition of specs/.
 ghost use mathlib.Core.Path.{_≡_};
-ghost use Prim.Native.Nat.{_+_, _-_, _^_, _≤_, _<_};
+ghost use Prim.Native.Nat.{_+_, _-_, _^_, _≤_, _<_, min};
 ghost use lib.ListN.{getD};
 ghost use Rattle.text.specs.Part.{part};
 ghost use Rattle.text.specs.Line.{nextLine, nextNumber};
@@ -118,19 +118,35 @@ fn wide(b: u8) -> u64
     b as u64
 }
 
+// The shorter of two lengths.
+fn shorter(a: usize, b: usize) -> usize
+    ensures { λ r. ⌜ r ≡ min a b ⌝ }
+{
+    if a < b { a } else { b }
+}
+
 // The rest of a number whose digits so far made `value`, and of which at most `left` digits may follow.
 fn digits_from(text: &[u8], at: usize, end: usize, value: u64, left: u8) -> Number
     requires { ⌜ (left ≤ 15) × (value < 10 ^ (16 - left)) ⌝ }
     ensures { λ r. ⌜ r ≡ restAt at value left (digitRun (part (now (text .entry)) at end)) ⌝ }
 {
-    let b = front(text, at, end);
-    if !is_digit(b) {
-        return Number::Value { value, next: at };
+    let last = shorter(end, text.len());
+    let mut p = at;
+    let mut v = value;
+    let mut l = left;
+    while p < last {
+        let b = text[p];
+        if !is_digit(b) {
+            return Number::Value { value: v, next: p };
+        }
+        if l == 0 {
+            return Number::NotOne;
+        }
+        v = v * 10 + wide(b - 48);
+        l -= 1;
+        p += 1;
     }
-    if left == 0 {
-        return Number::NotOne;
-    }
-    digits_from(text, at + 1, end, value * 10 + wide(b - 48), left - 1)
+    Number::Value { value: v, next: p }
 }
 
 // The number at a place: the digits there are taken whole, and they are a number if there are 1 to 16 of them with no leading zero.
