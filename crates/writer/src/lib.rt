@@ -14,15 +14,20 @@ pub enum Put {
     Short,
 }
 
-// How many digits a number has.
+// How many digits a number has: one, and one more for each power of ten from 10 on that it reaches.
 pub fn number_length(value: u64) -> usize
     ensures { λ r. ⌜ r ≡ length (digits value) ⌝ }
 {
-    if value < 10 {
-        1
-    } else {
-        number_length(value / 10) + 1
+    let mut n = 1;
+    let mut limit = 10;
+    while limit <= value {
+        n += 1;
+        if n == 20 {
+            return 20;
+        }
+        limit *= 10;
     }
+    n
 }
 
 // All of the bytes, from `at` on, into a buffer that has room for them; the place behind them.
@@ -38,19 +43,21 @@ fn copy_to(buffer: &mut [u8], at: usize, bytes: &[u8]) -> usize
     at + bytes.len()
 }
 
-// The digits of a number, from `at` on, into a buffer that has room for them; the place behind them.
+// The digits of a number, from `at` on, into a buffer that has room for them; the place behind them. The last digit is written first.
 fn digits_to(buffer: &mut [u8], at: usize, value: u64) -> usize
     requires { ⌜ at + length (digits value) ≤ length (now buffer) ⌝ }
     ensures { λ r. ⌜ (r ≡ at + length (digits value)) × (now (buffer .exit) ≡ overwrite (now (buffer .entry)) at (digits value)) ⌝ }
 {
-    if value < 10 {
-        buffer[at] = digit(value);
-        at + 1
-    } else {
-        let last = digits_to(buffer, at, value / 10);
-        buffer[last] = digit(value % 10);
-        last + 1
+    let behind = at + number_length(value);
+    let mut p = behind;
+    let mut v = value;
+    while 10 <= v {
+        p -= 1;
+        buffer[p] = digit(v % 10);
+        v = v / 10;
     }
+    buffer[at] = digit(v);
+    behind
 }
 
 fn digit(d: u64) -> u8
