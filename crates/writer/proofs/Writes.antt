@@ -64,7 +64,7 @@ overwrite-before d at s t h =
     let w : List ℕ = drop (k + length t) d in
     let l : length (take k d) ≡ k = length-take-le k d h in
     let front : take at ((take k d ++ t) ++ w) ≡ take at d =
-        ap (take at) (append-assoc (take k d) t w) ∙ take-append-le at (take k d) (t ++ w) (omega arith) ∙ take-take at k d (omega arith) in
+    ap (take at) (append-assoc (take k d) t w) ∙ take-append-le at (take k d) (t ++ w) (omega arith) ∙ take-take at k d (omega arith) in
     let back : drop k ((take k d ++ t) ++ w) ≡ t ++ w = ap (drop k) (append-assoc (take k d) t w) ∙ drop-at (take k d) (t ++ w) k l in
     rw (front, back, length-append s t, ← add-assoc at (length s) (length t)) (simp append-assoc)
 
