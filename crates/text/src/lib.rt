@@ -3,6 +3,8 @@
 // for every input, by a definition of specs/.
 ghost use mathlib.Core.Path.{_≡_};
 ghost use Prim.Native.Nat.{_+_, _-_, _^_, _≤_, _<_, min};
+ghost use mathlib.Core.Bool.{cond};
+ghost use lib.Dec.{eqb};
 ghost use lib.ListN.{getD};
 ghost use Rattle.text.specs.Part.{part};
 ghost use Rattle.text.specs.Line.{nextLine, nextNumber};
@@ -210,30 +212,41 @@ pub fn line_is(text: &[u8], start: usize, end: usize, word: &[u8]) -> bool
     false
 }
 
-// `count` numbers, each behind one space, and `)`, from a place to the end of its line.
-fn numbers_from(text: &[u8], at: usize, end: usize, count: u8) -> Form
+// One of a form's first four numbers: the value that was read last, where its place is this one, and else what it was.
+fn placed(last: u8, place: u8, value: u64, before: u64) -> u64
+    ensures { λ r. ⌜ r ≡ cond (eqb last place) value before ⌝ }
+{
+    if last == place { value } else { before }
+}
+
+// `count` numbers, each behind one space, and `)`, from a place to the end of its line. The first four numbers are handed out.
+pub fn numbers_from(text: &[u8], at: usize, end: usize, count: u8) -> Form
     ensures { λ r. ⌜ r ≡ formOf (readNumbers count (part (now (text .entry)) at end)) ⌝ }
 {
-    if count == 0 {
-        if line_is(text, at, end, b")") {
-            return Form::Numbers(0, 0, 0, 0);
+    let mut a = 0;
+    let mut b = 0;
+    let mut c = 0;
+    let mut d = 0;
+    let mut p = at;
+    let mut i = 0;
+    while i < count {
+        if front(text, p, end) != 32 {
+            return Form::NoForm;
         }
-        return Form::NoForm;
+        let Number::Value { value, next } = number_at(text, p + 1, end) else {
+            return Form::NoForm;
+        };
+        a = placed(i, 0, value, a);
+        b = placed(i, 1, value, b);
+        c = placed(i, 2, value, c);
+        d = placed(i, 3, value, d);
+        p = next;
+        i += 1;
     }
-    if front(text, at, end) != 32 {
-        return Form::NoForm;
+    if line_is(text, p, end, b")") {
+        return Form::Numbers(a, b, c, d);
     }
-    let n = number_at(text, at + 1, end);
-    match n {
-        Number::Value { value, next } => {
-            let rest = numbers_from(text, next, end, count - 1);
-            match rest {
-                Form::Numbers(a, b, c, _) => Form::Numbers(value, a, b, c),
-                Form::NoForm => Form::NoForm,
-            }
-        }
-        Number::NotOne => Form::NoForm,
-    }
+    Form::NoForm
 }
 
 // The line from start to end as a form: the word, `count` numbers, each behind one space, and `)`. The first four numbers are handed out.
