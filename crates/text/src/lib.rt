@@ -2,10 +2,10 @@
 // A text is a slice of bytes and places in it are numbers from 0. No public function has a `requires`: each says its whole answer
 // for every input, by a definition of specs/.
 ghost use mathlib.Core.Path.{_≡_};
-ghost use Prim.Native.Nat.{_+_, _-_, _^_, _≤_, _<_, min};
-ghost use mathlib.Core.Bool.{cond};
+ghost use mathlib.Core.Bool.{false, cond};
+ghost use Prim.Native.Nat.{ℕ, _+_, _-_, _^_, _≤_, _<_, min};
 ghost use lib.Dec.{eqb};
-ghost use lib.ListN.{getD};
+ghost use lib.ListN.{length, getD};
 ghost use Rattle.text.specs.Part.{part};
 ghost use Rattle.text.specs.Line.{nextLine, nextNumber};
 ghost use Rattle.text.specs.Number.{isDigit, digitRun, restAt, numberAt};
@@ -57,13 +57,44 @@ pub fn first_line() -> Cursor
     Cursor { at: 0, number: 1 }
 }
 
+// Whether one of the eight bytes from a place on is LF. Without branches, so that the compiler compares them at once.
+fn has_lf(text: &[u8], i: usize) -> bool
+    requires { ⌜ i + 8 ≤ length (now text) ⌝ }
+    ensures { λ r. ⌜ (r ≡ false → (k : ℕ) → i ≤ k → k < i + 8 → eqb (getD (now (text .entry)) k 0) 10 ≡ false) ⌝ }
+{
+    let first = (text[i] == 10) | (text[i + 1] == 10) | (text[i + 2] == 10) | (text[i + 3] == 10);
+    let last = (text[i + 4] == 10)
+        | (text[i + 5] == 10)
+        | (text[i + 6] == 10)
+        | (text[i + 7] == 10);
+    first | last
+}
+
+// A place from `at` on with no LF between the two: behind all blocks of eight bytes that have none.
+fn past_plain(text: &[u8], at: usize) -> usize
+    ensures { λ r. ⌜ (at ≤ r) × (at < r → r ≤ length (now (text .entry))) × ((k : ℕ) → at ≤ k → k < r → eqb (getD (now (text .entry)) k 0) 10 ≡ false) ⌝ }
+{
+    if text.len() < 8 {
+        return at;
+    }
+    let last = text.len() - 8;
+    let mut i = at;
+    while i <= last {
+        if has_lf(text, i) {
+            return i;
+        }
+        i += 8;
+    }
+    i
+}
+
 // The line at the cursor, with its number.
 pub fn next_line(text: &[u8], c: Cursor) -> Next
     ensures { λ r. ⌜ r ≡ nextLine (now (text .entry)) c ⌝ }
 {
     let at = c.at;
     let number = c.number;
-    let mut i = at;
+    let mut i = past_plain(text, at);
     while i < text.len() {
         if text[i] == 10 {
             return Next::Line {
