@@ -12,23 +12,38 @@ pub enum Said {
     NoEvent,
 }
 
-// What the line from start to end says.
+// What the line from start to end says. No line begins with two of the words, so the numbers behind the first that is there decide.
 pub fn event_at(text: &[u8], start: usize, end: usize) -> Said
     ensures { λ r. ⌜ r ≡ eventOf (part (now (text .entry)) start end) ⌝ }
 {
-    if let Form::Numbers(t, k, b, _) = text::form_at(text, start, end, b"(normal", 3) {
+    if text::word_at(text, start, end, b"(normal") {
+        let Form::Numbers(t, k, b, _) = text::numbers_from(text, start + 7, end, 3) else {
+            return Said::NoEvent;
+        };
         return Said::Event(Event::Normal { t, k, b });
     }
-    if let Form::Numbers(t, k, b, _) = text::form_at(text, start, end, b"(high", 3) {
+    if text::word_at(text, start, end, b"(high") {
+        let Form::Numbers(t, k, b, _) = text::numbers_from(text, start + 5, end, 3) else {
+            return Said::NoEvent;
+        };
         return Said::Event(Event::High { t, k, b });
     }
-    if let Form::Numbers(t, k, _, _) = text::form_at(text, start, end, b"(off", 2) {
+    if text::word_at(text, start, end, b"(off") {
+        let Form::Numbers(t, k, _, _) = text::numbers_from(text, start + 4, end, 2) else {
+            return Said::NoEvent;
+        };
         return Said::Event(Event::Off { t, k });
     }
-    if let Form::Numbers(t, k, n, b) = text::form_at(text, start, end, b"(reserve", 4) {
+    if text::word_at(text, start, end, b"(reserve") {
+        let Form::Numbers(t, k, n, b) = text::numbers_from(text, start + 8, end, 4) else {
+            return Said::NoEvent;
+        };
         return Said::Event(Event::Reserve { t, k, n, b });
     }
-    if let Form::Numbers(t, _, _, _) = text::form_at(text, start, end, b"(until", 1) {
+    if text::word_at(text, start, end, b"(until") {
+        let Form::Numbers(t, _, _, _) = text::numbers_from(text, start + 6, end, 1) else {
+            return Said::NoEvent;
+        };
         return Said::Event(Event::Until { t });
     }
     Said::NoEvent

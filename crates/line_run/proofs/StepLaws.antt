@@ -13,7 +13,7 @@ use Rattle.cells.specs.declared.Step.{Step}
 use Rattle.cells.specs.Calls.{StepPromise}
 use Rattle.log_spec.specs.Cells.{Run, line, goingOn, more, stepsBy}
 use Rattle.line_run.specs.LineRun.{Ran}
-use Rattle.line_run.proofs.Ran.{ran-same, onward, halted}
+use Rattle.line_run.proofs.Ran.{ran-same, onto, halted}
 
 module _ (write : Bool) (P : List ℕ) (left t : ℕ) (s b : List ℕ) (at : ℕ) where
   pub no-steps : left ≡ 0 → Ran (stepsBy write P left t s b at) (Behind at) s b
@@ -45,8 +45,8 @@ module _ (write : Bool) (P : List ℕ) (left t : ℕ) (s b : List ℕ) (at : ℕ
       unfolding after
       goes = split ∙ rw m
 
-      pub more-steps : (z : ℕ) → put ≡ Behind z → {r : Put} {s″ b″ : List ℕ} → Ran (stepsBy write P (left - 1) t s′ b′ z) r s″ b″ → Ran (stepsBy write P left t s b at) r s″ b″
-      more-steps z e x = ran-same goes (onward (stepsBy write P (left - 1) t) (line write (stepLine a) s′ b at) (p, (refl, w)) z e x)
+      pub more-steps : (z : ℕ) → put ≡ Behind z → stepsBy write P left t s b at ≡ stepsBy write P (left - 1) t s′ b′ z
+      more-steps z e = goes ∙ onto (stepsBy write P (left - 1) t) (line write (stepLine a) s′ b at) (p, (refl, w)) z e
 
       pub no-room : put ≡ Short → Ran (stepsBy write P left t s b at) Short s′ b′
       no-room e = ran-same goes (halted (stepsBy write P (left - 1) t) (line write (stepLine a) s′ b at) (p, (refl, w)) e)

@@ -47,17 +47,20 @@ fn steps(
     ensures { λ r. ⌜ now (s .exit) ≡ stepsBy write (now (p .entry)) left t (now (s .entry)) (now (buffer .entry)) at .cells ⌝ }
     ensures { λ r. ⌜ now (buffer .exit) ≡ stepsBy write (now (p .entry)) left t (now (s .entry)) (now (buffer .entry)) at .buffer ⌝ }
 {
-    if left == 0 {
-        return Put::Behind(at);
+    let mut l = left;
+    let mut z = at;
+    while l != 0 {
+        let a = hub::step(p, s, t);
+        if !goes_on(a) {
+            return Put::Behind(z);
+        }
+        let Put::Behind(next) = log_lines::step_line(a, write, buffer, z) else {
+            return Put::Short;
+        };
+        z = next;
+        l -= 1;
     }
-    let a = hub::step(p, s, t);
-    if !goes_on(a) {
-        return Put::Behind(at);
-    }
-    match log_lines::step_line(a, write, buffer, at) {
-        Put::Behind(z) => steps(p, s, left - 1, t, write, buffer, z),
-        Put::Short => Put::Short,
-    }
+    Put::Behind(z)
 }
 
 // Twice a number of requests, and one more while a line is busy.

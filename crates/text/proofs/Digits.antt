@@ -4,7 +4,7 @@ use mathlib.Core.Path.{_≡_, refl, sym, ap, _∙_}
 use mathlib.Core.Bool.{Bool, true, false, not, false≢true}
 use mathlib.Core.List.{List, [], _∷_, _++_, append-nil}
 use Prim.Native.Nat.{ℕ, zero, suc, _+_, _-_, _*_, _/_, _%_, _^_, _≤_, _<_}
-use native.Mathlib.Nat.{zero-add, add-zero, pow-succ'}
+use native.Mathlib.Nat.{zero-add, add-zero, pow-succ', pow-le-pow-right}
 use native.Mathlib.Omega.{arith}
 use borrow.Author.Tests.{lt-ltb, le-ltb, ltb-true, ltb-false, eqb-false, ne-eqb, le-leb, not-true}
 use lib.Dec.{ltb, leb, eqb}
@@ -91,6 +91,15 @@ digits-length (suc k) n h = go (ltb n 10) refl (digits-length k (n / 10))
     go false e ih =
         let p : 10 ^ suc (suc k) ≡ 10 * 10 ^ suc k = pow-succ' 10 (suc k) in
         rw (digits-more n (ltb-false n 10 e), length-append (digits (n / 10)) ((48 + n % 10) ∷ [])) (omega (arith, ih (omega arith)))
+
+-- from 10 ^ k on more than k digits
+pub digits-reach : (k n : ℕ) → 10 ^ k ≤ n → suc k ≤ length (digits n)
+digits-reach zero n h = digits-some n
+digits-reach (suc k) n h =
+    let p : 10 ^ suc k ≡ 10 * 10 ^ k = pow-succ' 10 k in
+    let q : 1 ≤ 10 ^ k = pow-le-pow-right {n = 10} (omega arith) {i = 0} {j = k} (omega arith) in
+    let ih : suc k ≤ length (digits (n / 10)) = digits-reach k (n / 10) (omega arith) in
+    rw (digits-more n (omega arith), length-append (digits (n / 10)) ((48 + n % 10) ∷ [])) (omega arith)
 
 -- a number above 0 has no zero in front
 pub digits-head : (n : ℕ) → 1 ≤ n → getD (digits n) 0 0 ≡ 48 → ⊥

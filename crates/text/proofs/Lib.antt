@@ -7,6 +7,7 @@ pub mod Words
 pub mod Digits
 pub mod Numbers
 pub mod Forms
+mod Plain
 mod Run
 mod Answer
 mod Reading

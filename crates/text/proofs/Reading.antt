@@ -1,12 +1,13 @@
 -- Reading numbers behind spaces at a place of a text: what one number more gives, and what stops it. Assumes nothing.
 use mathlib.Core.Path.{_≡_, refl, sym, ap, _∙_}
-use mathlib.Core.Bool.{true, false}
-use mathlib.Core.List.{List, [], _∷_}
+use mathlib.Core.Bool.{true, false, cond}
+use mathlib.Core.List.{List, [], _∷_, _++_}
 use mathlib.Core.Option.{Option, none, some}
 use Prim.Native.Nat.{ℕ, zero, suc, _+_, _-_, _≤_}
 use native.Mathlib.Omega.{arith}
 use borrow.Author.Tests.{eq-eqb, ne-eqb}
-use lib.ListN.{drop, getD}
+use lib.Dec.{eqb, eqb·zero-suc, eqb·suc-zero, eqb·suc-suc}
+use lib.ListN.{length, drop, getD}
 use Rattle.text.specs.Part.{part}
 use Rattle.text.specs.Number.{readNumber, numberFrom, numberAt}
 use Rattle.text.specs.Word.{isWord}
@@ -37,12 +38,12 @@ not-one-read text at end h = go (readNumber (part text at end)) h
     go (some r) e = cc
 
 -- the closing bracket, or not
-pub closed : (s : List ℕ) → isWord (41 ∷ []) s ≡ true → formOf (readNumbers 0 s) ≡ Numbers 0 0 0 0
-unfolding readNumbers readClose formOf
+pub closed : (s : List ℕ) → isWord (41 ∷ []) s ≡ true → readNumbers 0 s ≡ some []
+unfolding readNumbers readClose
 closed s h = rw h
 
-pub not-closed : (s : List ℕ) → isWord (41 ∷ []) s ≡ false → formOf (readNumbers 0 s) ≡ NoForm
-unfolding readNumbers readClose formOf
+pub not-closed : (s : List ℕ) → isWord (41 ∷ []) s ≡ false → readNumbers 0 s ≡ none
+unfolding readNumbers readClose
 not-closed s h = rw h
 
 -- no space where a number is to come
@@ -59,16 +60,45 @@ unfolding readNumbers
 space count [] h = absurd (omega arith)
 space count (b ∷ s) h = rw (eq-eqb b 32 h)
 
--- one number in front of a form's numbers
-pub front-numbers : (v : ℕ) (o : Option (List ℕ)) (a b c d : ℕ) → formOf o ≡ Numbers a b c d → formOf (andThen v o) ≡ Numbers v a b c
-unfolding formOf andThen
-front-numbers v none a b c d h = let z : _≡_ {A = ℕ} 0 1 = cc in absurd (omega arith)
-front-numbers v (some ns) a b c d h = cc
+-- numbers that were read, in front of what is read behind them
+unfoldable pub inFront : List ℕ → Option (List ℕ) → Option (List ℕ)
+inFront [] o = o
+inFront (v ∷ vs) o = andThen v (inFront vs o)
 
-pub front-none : (v : ℕ) (o : Option (List ℕ)) → formOf o ≡ NoForm → formOf (andThen v o) ≡ NoForm
-unfolding formOf andThen
-front-none v none h = refl
-front-none v (some ns) h = cc
+pub in-front-none : (vs : List ℕ) → inFront vs none ≡ none
+unfolding inFront andThen
+in-front-none [] = refl
+in-front-none (v ∷ vs) = rw (in-front-none vs)
+
+pub in-front-all : (vs : List ℕ) → inFront vs (some []) ≡ some vs
+unfolding inFront andThen
+in-front-all [] = refl
+in-front-all (v ∷ vs) = rw (in-front-all vs)
+
+pub in-front-more : (vs : List ℕ) (v : ℕ) (o : Option (List ℕ)) → inFront vs (andThen v o) ≡ inFront (vs ++ (v ∷ [])) o
+unfolding inFront
+in-front-more [] v o = refl
+in-front-more (w ∷ vs) v o = rw (in-front-more vs v o)
+
+-- where nothing is read behind them there is no form, and where the bracket follows they are the form's
+pub no-form : (vs : List ℕ) (o all : Option (List ℕ)) → all ≡ inFront vs o → o ≡ none → NoForm ≡ formOf all
+unfolding formOf
+no-form vs o all e h = sym (ap formOf (e ∙ ap (inFront vs) h ∙ in-front-none vs))
+
+pub whole-form : (vs : List ℕ) (o all : Option (List ℕ)) → all ≡ inFront vs o → o ≡ some []
+    → Numbers (getD vs 0 0) (getD vs 1 0) (getD vs 2 0) (getD vs 3 0) ≡ formOf all
+unfolding formOf
+whole-form vs o all e h = sym (ap formOf (e ∙ ap (inFront vs) h ∙ in-front-all vs))
+
+-- one number more stands behind the others, which stay in their places
+one-more : (vs : List ℕ) (v j : ℕ) → cond (eqb (length vs) j) v (getD vs j 0) ≡ getD (vs ++ (v ∷ [])) j 0
+one-more [] v zero = refl
+one-more [] v (suc j) = rw (eqb·zero-suc j)
+one-more (w ∷ vs) v zero = rw (eqb·suc-zero (length vs))
+one-more (w ∷ vs) v (suc j) = rw (eqb·suc-suc (length vs) j) (one-more vs v j)
+
+pub one-more-at : (vs : List ℕ) (i v old j : ℕ) → length vs ≡ i → old ≡ getD vs j 0 → cond (eqb i j) v old ≡ getD (vs ++ (v ∷ [])) j 0
+one-more-at vs i v old j l e = rw (← l, e) (one-more vs v j)
 
 module _ (text : List ℕ) (at end count : ℕ) (more : 1 ≤ count) (here : getD (part text at end) 0 0 ≡ 32) where
   spaced : readNumbers count (part text at end)

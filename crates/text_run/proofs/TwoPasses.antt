@@ -1,8 +1,8 @@
 -- A pass that measures, and one that writes behind it where the log fits: together all of the log, or nothing.
-use Prim.Native.Nat.{ℕ, _+_, _≤_}
+use Prim.Native.Nat.{ℕ, _+_, _*_, _≤_}
 use mathlib.Core.Path.{_≡_, refl, sym, ap, _∙_}
 use mathlib.Core.Bool.{true, false}
-use mathlib.Core.List.{List}
+use mathlib.Core.List.{List, flatten, append-nil}
 use native.Mathlib.Nat.{zero-add}
 use native.Mathlib.Omega.{arith}
 use lib.ListN.{length}
@@ -13,12 +13,17 @@ use Rattle.writer.specs.Write.{fits, overwrite, putAnswer, putBuffer, putNumber
 use Rattle.writer.specs.declared.Put.{Put}
 use Rattle.writer.specs.declared.Put.the-variants.{Behind, Short}
 use Rattle.writer.proofs.Writes.{put-fits, put-short, put-told}
+use Rattle.plan.specs.declared.Answer.{Answer}
+use Rattle.plan.specs.declared.Answer.the-variants.{Taken, Refused}
 use Rattle.plan.specs.Reading.{reading, leaves}
 use Rattle.log_lines.specs.Handed.{handed}
-use Rattle.log_spec.specs.Log.{logOf, logBytes}
+use Rattle.log_lines.specs.FirstLine.{refusedLine}
+use Rattle.log_spec.specs.Log.{planLog, logOf, logBytes}
 use Rattle.log_spec.specs.Cells.{Written, passBy, planLeft, cellsLeft}
 use Rattle.log_spec.proofs.RunLogged.{pass-writes}
-use Rattle.log_spec.proofs.LogLength.{log-bound}
+use Rattle.log_spec.proofs.LineLengths.{far-length}
+use Rattle.log_spec.proofs.RefusedPlan.{Named, answer-named}
+use Rattle.log_spec.proofs.LogLength.{taken-log-bound, log-bound}
 use Rattle.log_spec.proofs.AtOnce.{measured, at-once, all-written}
 
 -- what the answer says of the buffer's room
@@ -51,9 +56,21 @@ module _ (text spare b : List ℕ) {r : Put} {b₁ : List ℕ} (answer : r ≡ p
   pub found-room : (z : ℕ) → r ≡ Behind z → (true ≡ fits b 0 (logBytes text)) × (b₁ ≡ b)
   found-room z e = (sym (behind-fits b 0 (logBytes text) z (sym e ∙ told)), same-buffer)
 
--- every log fits in so many bytes
-pub large-room : (text b : List ℕ) → 1179648 ≤ length b → (true ≡ fits b 0 (logBytes text)) × (b ≡ b)
-large-room text b h = (sym (le-leb _ (length b) (omega (arith, log-bound text))), refl)
+-- a refused plan's log is one line
+refused-log : (text : List ℕ) (line number : ℕ) → reading (handed text) .answer ≡ Refused line number → length (logBytes text) ≡ length (refusedLine line number)
+unfolding logBytes logOf planLog flatten
+refused-log text line number e = rw (e, append-nil (refusedLine line number))
+
+-- room for a log as long as any of a text this long
+pub log-room : (text : List ℕ) (room : ℕ) → 33 ≤ room → 18 * length (handed text) ≤ room → length (logBytes text) ≤ room
+log-room text room line enough = go (reading (handed text) .answer) refl (answer-named (handed text))
+  where
+    go : (a : Answer) → reading (handed text) .answer ≡ a → Named a → length (logBytes text) ≤ room
+    go (Taken nodes hubs at number) e h = omega (arith, taken-log-bound text nodes hubs at number e)
+    go (Refused number row) e h = omega (arith, refused-log text number row e, far-length number row (h .0) (h .1))
+
+pub large-room : (text b : List ℕ) → length (logBytes text) ≤ length b → (true ≡ fits b 0 (logBytes text)) × (b ≡ b)
+large-room text b h = (sym (le-leb _ (length b) (omega arith)), refl)
 
 -- what `run` promises of its answer, its buffer and its tables
 abbrev Left : List ℕ → List ℕ → List ℕ → List ℕ → Put → List ℕ → List ℕ → List ℕ → Type 0

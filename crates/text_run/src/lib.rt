@@ -6,7 +6,7 @@ use plan_tree::Plan;
 use writer::Put;
 ghost use mathlib.Core.Path.{_≡_};
 ghost use mathlib.Core.Bool.{true};
-ghost use Prim.Native.Nat.{suc};
+ghost use Prim.Native.Nat.{suc, _≤_};
 ghost use lib.ListN.{length};
 ghost use Rattle.plan.specs.Reading.{reading, leaves};
 ghost use Rattle.log_lines.specs.Handed.{handed};
@@ -129,13 +129,24 @@ fn pass(text: &[u8], plan: &mut Plan, s: &mut Cascade, write: bool, buffer: &mut
     }
 }
 
-// Whether the whole log of a text fits into a lent buffer. Every log fits into one of LONGEST_LOG bytes;
-// of a shorter buffer a pass on tables of its own finds it out, which only measures.
+// Whether so many bytes hold the log of any text as long as this one: 18 for each byte that is read, and a refused plan's line has 33.
+fn holds_any(text: &[u8], room: usize) -> bool
+    ensures { λ r. ⌜ (r ≡ true → length (logBytes (now (text .entry))) ≤ room) ⌝ }
+{
+    let read = log_lines::handed(text);
+    if room < 33 {
+        return false;
+    }
+    18 * read.len() <= room
+}
+
+// Whether the whole log of a text fits into a lent buffer. Where a log as long as any could be
+// does, nothing is measured; else a pass on tables of its own finds it out, which only measures.
 fn log_fits(text: &[u8], buffer: &mut [u8]) -> bool
     ensures { λ r. ⌜ r ≡ fits (now (buffer .entry)) 0 (logBytes (now (text .entry))) ⌝ }
     ensures { λ r. ⌜ now (buffer .exit) ≡ now (buffer .entry) ⌝ }
 {
-    if LONGEST_LOG <= buffer.len() {
+    if holds_any(text, buffer.len()) {
         return true;
     }
     let mut plan = [0u32; plan_tree::CELLS];

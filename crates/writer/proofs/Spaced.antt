@@ -2,13 +2,14 @@
 -- Assumes nothing.
 use mathlib.Core.Path.{_≡_, refl, sym, ap, _∙_}
 use mathlib.Core.List.{List, [], _∷_, _++_, append-assoc, append-nil}
-use Prim.Native.Nat.{ℕ, suc, _+_, _≤_, _<_}
+use Prim.Native.Nat.{ℕ, suc, _+_, _*_, _≤_, _<_}
 use native.Mathlib.Numerals.{add-one}
 use native.Mathlib.Omega.{arith}
 use lib.ListN.{length, take, drop, set, getD, length-append, take-append-drop}
 use lib.Seq.{drop-cons, take-suc, append-snoc}
 use Rattle.text.specs.Number.{digits}
 use Rattle.text.specs.Form.{drawNumbers, drawForm}
+use Rattle.text.proofs.Digits.{digits-length}
 use Rattle.writer.specs.Write.{overwrite, drawLine}
 use Rattle.writer.proofs.Writes.{overwrite-append, overwrite-snoc}
 
@@ -57,6 +58,19 @@ line-length word ns = rw (length-append (word ++ drawNumbers ns) (10 ∷ []), le
 
 pub line-ends : (ns : List ℕ) → length (drawLine [] ns) ≡ length (spaced ns) + 2
 line-ends ns = ap length (line-spaced [] ns) ∙ length-append (spaced ns) (41 ∷ 10 ∷ [])
+
+-- no number has more than 20 digits, so a line has at most 21 bytes a number besides its word, its bracket and LF
+numbers-most : (ns : List ℕ) → ((i : ℕ) → getD ns i 0 < 18446744073709551616) → length (drawNumbers ns) ≤ 21 * length ns + 1
+unfolding drawNumbers
+numbers-most [] small = omega arith
+numbers-most (n ∷ ns) small =
+    let one : n < 18446744073709551616 = small 0 in
+    let others : length (drawNumbers ns) ≤ 21 * length ns + 1 = numbers-most ns (λ i. small (suc i)) in
+    let twenty : length (digits n) ≤ 20 = digits-length 19 n (omega arith) in
+    rw (length-append (digits n) (drawNumbers ns)) (omega arith)
+
+pub line-most : (word ns : List ℕ) → ((i : ℕ) → getD ns i 0 < 18446744073709551616) → length (drawLine word ns) ≤ length word + (21 * length ns + 2)
+line-most word ns small = omega (arith, line-length word ns, numbers-most ns small)
 
 -- the numbers before some, and that one, fit in the line
 pub number-fits : (ns : List ℕ) (i : ℕ) → i < length ns → length (spaced (take i ns)) + 1 + length (digits (getD ns i 0)) + 2 ≤ length (drawLine [] ns)

@@ -9,7 +9,7 @@ use native.Mathlib.Numerals.{add-one}
 use native.Mathlib.Omega.{arith}
 use borrow.Author.Tests.{le-leb, lt-leb, leb-true, leb-false}
 use lib.ListN.{length, take, drop, set, length-append, take-append-drop}
-use lib.Seq.{take-length, length-paste, length-paste-head, set-split, append-snoc, take-at, drop-append-add, paste, drop-drop, drop-at, length-take-le}
+use lib.Seq.{take-length, take-take, take-append-le, length-paste, length-paste-head, set-split, append-snoc, take-at, drop-append-add, paste, drop-drop, drop-at, length-take-le}
 use Rattle.text.specs.Part.{part}
 use Rattle.text.specs.Number.{digits, digitRun, readNumber, numberFrom, numberAt}
 use Rattle.writer.specs.Write.{overwrite, written, putBuffer, passBuffer, answered, putAnswer, putNumber, numbered, putRow}
@@ -56,6 +56,21 @@ pub overwrite-snoc : (d : List ℕ) (at : ℕ) (s : List ℕ) (x : ℕ) → at +
 overwrite-snoc d at s x h =
     set-overwrite (overwrite d at s) (at + length s) x (rw (overwrite-length d at s (omega arith)) h)
     ∙ overwrite-append d at s (x ∷ []) (omega arith)
+
+-- bytes written in front of bytes are both written at once
+pub overwrite-before : (d : List ℕ) (at : ℕ) (s t : List ℕ) → at + length s ≤ length d → overwrite (overwrite d (at + length s) t) at s ≡ overwrite d at (s ++ t)
+overwrite-before d at s t h =
+    let k : ℕ = at + length s in
+    let w : List ℕ = drop (k + length t) d in
+    let l : length (take k d) ≡ k = length-take-le k d h in
+    let front : take at ((take k d ++ t) ++ w) ≡ take at d =
+    ap (take at) (append-assoc (take k d) t w) ∙ take-append-le at (take k d) (t ++ w) (omega arith) ∙ take-take at k d (omega arith) in
+    let back : drop k ((take k d ++ t) ++ w) ≡ t ++ w = ap (drop k) (append-assoc (take k d) t w) ∙ drop-at (take k d) (t ++ w) k l in
+    rw (front, back, length-append s t, ← add-assoc at (length s) (length t)) (simp append-assoc)
+
+pub overwrite-cons : (d : List ℕ) (i x : ℕ) (s : List ℕ) → i + 1 + length s ≤ length d → set (overwrite d (i + 1) s) i x ≡ overwrite d i (x ∷ s)
+overwrite-cons d i x s h =
+    set-overwrite (overwrite d (i + 1) s) i x (rw (overwrite-length d (i + 1) s h) (omega arith)) ∙ overwrite-before d i (x ∷ []) s (omega arith)
 
 -- the two answers differ
 apart : (x : ℕ) → Short ≡ Behind x → ⊥

@@ -1,8 +1,9 @@
 // Numbers, words and whole lines written into a lent buffer at a place: all of the bytes, or none. No public function
 // has a `requires`: each says its whole answer and the whole buffer, for every input, by a definition of specs/.
 ghost use mathlib.Core.Path.{_≡_};
+ghost use mathlib.Core.Bool.{true};
 ghost use mathlib.Core.List.{[]};
-ghost use Prim.Native.Nat.{_+_, _-_, _≤_, _<_};
+ghost use Prim.Native.Nat.{_+_, _-_, _*_, _≤_, _<_};
 ghost use lib.Dec.{leb};
 ghost use lib.ListN.{length};
 ghost use Rattle.text.specs.Number.{digits};
@@ -14,15 +15,20 @@ pub enum Put {
     Short,
 }
 
-// How many digits a number has.
+// How many digits a number has: one, and one more for each power of ten from 10 on that it reaches.
 pub fn number_length(value: u64) -> usize
     ensures { λ r. ⌜ r ≡ length (digits value) ⌝ }
 {
-    if value < 10 {
-        1
-    } else {
-        number_length(value / 10) + 1
+    let mut n = 1;
+    let mut limit = 10;
+    while limit <= value {
+        n += 1;
+        if n == 20 {
+            return 20;
+        }
+        limit *= 10;
     }
+    n
 }
 
 // All of the bytes, from `at` on, into a buffer that has room for them; the place behind them.
@@ -38,19 +44,21 @@ fn copy_to(buffer: &mut [u8], at: usize, bytes: &[u8]) -> usize
     at + bytes.len()
 }
 
-// The digits of a number, from `at` on, into a buffer that has room for them; the place behind them.
+// The digits of a number, from `at` on, into a buffer that has room for them; the place behind them. The last digit is written first.
 fn digits_to(buffer: &mut [u8], at: usize, value: u64) -> usize
     requires { ⌜ at + length (digits value) ≤ length (now buffer) ⌝ }
     ensures { λ r. ⌜ (r ≡ at + length (digits value)) × (now (buffer .exit) ≡ overwrite (now (buffer .entry)) at (digits value)) ⌝ }
 {
-    if value < 10 {
-        buffer[at] = digit(value);
-        at + 1
-    } else {
-        let last = digits_to(buffer, at, value / 10);
-        buffer[last] = digit(value % 10);
-        last + 1
+    let behind = at + number_length(value);
+    let mut p = behind;
+    let mut v = value;
+    while 10 <= v {
+        p -= 1;
+        buffer[p] = digit(v % 10);
+        v = v / 10;
     }
+    buffer[at] = digit(v);
+    behind
 }
 
 fn digit(d: u64) -> u8
@@ -116,6 +124,33 @@ fn line_rest(word: &[u8], numbers: &[u64], room: usize) -> Put
     Put::Behind(left - 2)
 }
 
+// Whether a line of a word this long and so many numbers fits in any case: no number has more than 20 digits.
+fn surely_fits(word: usize, count: usize, room: usize) -> bool
+    ensures { λ r. ⌜ (r ≡ true → word + (21 * count + 2) ≤ room) ⌝ }
+{
+    if 100 < count {
+        return false;
+    }
+    let most = 21 * count + 2;
+    if room < most {
+        return false;
+    }
+    word <= room - most
+}
+
+// Whether a whole line, the form and its LF, fits in this many bytes. It is measured only where it might not.
+fn line_fits(word: &[u8], numbers: &[u64], room: usize) -> bool
+    ensures { λ r. ⌜ r ≡ leb (length (drawLine (now (word .entry)) (now (numbers .entry)))) room ⌝ }
+{
+    if surely_fits(word.len(), numbers.len(), room) {
+        return true;
+    }
+    match line_rest(word, numbers, room) {
+        Put::Behind(_) => true,
+        Put::Short => false,
+    }
+}
+
 // The numbers, each behind a space, `)` and LF, from `at` on, into a buffer that has room for them; the place behind them.
 fn numbers_to(buffer: &mut [u8], at: usize, numbers: &[u64]) -> usize
     requires { ⌜ at + length (drawLine [] (now numbers)) ≤ length (now buffer) ⌝ }
@@ -141,11 +176,15 @@ pub fn put_form(write: bool, buffer: &mut [u8], at: usize, word: &[u8], numbers:
     if buffer.len() < at {
         return Put::Short;
     }
-    let Put::Behind(rest) = line_rest(word, numbers, buffer.len() - at) else {
-        return Put::Short;
-    };
+    let room = buffer.len() - at;
     if !write {
+        let Put::Behind(rest) = line_rest(word, numbers, room) else {
+            return Put::Short;
+        };
         return Put::Behind(buffer.len() - rest);
+    }
+    if !line_fits(word, numbers, room) {
+        return Put::Short;
     }
     let behind = copy_to(buffer, at, word);
     Put::Behind(numbers_to(buffer, behind, numbers))

@@ -4,7 +4,7 @@
 use mathlib.Core.Path.{_≡_, refl, sym, ap, _∙_}
 use mathlib.Core.Bool.{false, cond}
 use mathlib.Core.List.{List}
-use Prim.Native.Nat.{ℕ, _+_, _-_, _≤_, _<_}
+use Prim.Native.Nat.{ℕ, zero, suc, _+_, _-_, _≤_, _<_}
 use native.Mathlib.Nat.{add-zero}
 use native.Mathlib.Numerals.{add-one}
 use native.Mathlib.Omega.{arith}
@@ -50,11 +50,34 @@ lines-at : (text : List ℕ) (i : ℕ) → i < length text → lines (drop i tex
 unfolding lines
 lines-at text i h = rw (add-one, drop-cons text i 0 h)
 
+past-plain-requires : tie.Need-past-plain-requires Inv-loop μ-loop
+past-plain-requires c κs = tt
+
+-- bytes that are no LF belong to the line
+plain : (text : List ℕ) (at number j : ℕ) → (0 < j → at + j ≤ length text) → ((k : ℕ) → at ≤ k → k < at + j → eqb (getD text k 0) 10 ≡ false)
+    → goOn at number at (lines (drop at text)) ≡ goOn at number (at + j) (lines (drop (at + j) text))
+plain text at number zero room none = rw (add-zero at)
+plain text at number (suc j) room none =
+    let i : ℕ = at + j in
+    let inside : at + suc j ≤ length text = room (omega arith) in
+    let e : i + 1 ≡ at + suc j = omega arith in
+    plain text at number j (λ h. omega arith) (λ k low high. none k low (omega arith))
+    ∙ ap (goOn at number i) (lines-at text i (omega arith))
+    ∙ rw (none i (omega arith) (omega arith)) (step at number i (getD text i 0) (lines (drop (i + 1) text)) (omega arith))
+    ∙ ap (λ (k : ℕ). goOn at number k (lines (drop k text))) e
+
 loop-holds : tie.Need-loop-holds Inv-loop μ-loop
 unfolding nextLine
 loop-holds c =
-    let a = c .before .args in
-    (omega arith, begin (a .c .at) (a .c .number) (lines (drop (a .c .at) (a .text .now))))
+    let a = c .before .before .args in
+    let r = c .past-plain .result in
+    let e = c .past-plain .ensures in
+    let j : a .c .at + (r - a .c .at) ≡ r = omega (arith, e .0) in (
+      e .0,
+      begin (a .c .at) (a .c .number) (lines (drop (a .c .at) (a .text .now)))
+          ∙ plain (a .text .now) (a .c .at) (a .c .number) (r - a .c .at) (λ h. rw j (e .1 (omega arith))) (λ k low high. e .2 k low (omega arith))
+          ∙ ap (λ (i : ℕ). goOn (a .c .at) (a .c .number) i (lines (drop i (a .text .now)))) j,
+    )
 
 shared-slice-read-if1 : tie.Need-shared-slice-read-if1 Inv-loop μ-loop
 shared-slice-read-if1 c = omega arith
@@ -70,7 +93,7 @@ unfolding before goOn
 returns c =
     let s = c .before .before .before .before in
     let i : ℕ = s .loop .i in
-    let t : List ℕ = s .before .before .args .text .now in
+    let t : List ℕ = s .before .before .before .args .text .now in
     let inside : i < length t = omega arith in
     sym (s .loop .inv .1 ∙ rw (lines-at t i inside, eq-eqb _ _ (c .before .if1 .taken), add-zero, c .next-number .ensures))
 
@@ -84,7 +107,7 @@ loop-again : tie.Need-loop-again Inv-loop μ-loop
 loop-again c =
     let s = c .before .before .before in
     let i : ℕ = s .loop .i in
-    let a = s .before .before .args in
+    let a = s .before .before .before .args in
     let t : List ℕ = a .text .now in
     let inside : i < length t = omega arith in (
       omega arith,
@@ -102,7 +125,7 @@ unfolding goOn
 returns-2 c =
     let s = c .before .before in
     let i : ℕ = s .loop .i in
-    let t : List ℕ = s .before .before .args .text .now in
+    let t : List ℕ = s .before .before .before .args .text .now in
     sym (s .loop .inv .1 ∙ rw (no-lines t i (c .before .loop-test .left), lt-ltb _ _ (c .if2 .taken)))
 
 returns-3 : tie.Need-returns-3 Inv-loop μ-loop
@@ -110,7 +133,7 @@ unfolding goOn
 returns-3 c =
     let s = c .before .before in
     let i : ℕ = s .loop .i in
-    let t : List ℕ = s .before .before .args .text .now in
+    let t : List ℕ = s .before .before .before .args .text .now in
     sym (s .loop .inv .1 ∙ rw (no-lines t i (c .before .loop-test .left), le-ltb _ _ (c .if2 .left)))
 
 pub next-line-spec : {M : Type 1} → statement M
@@ -119,6 +142,7 @@ next-line-spec =
     (tie.spec
     Inv-loop
     μ-loop
+    past-plain-requires
     loop-holds
     shared-slice-read-if1
     add-t10
