@@ -70,19 +70,19 @@ fn take(p: &Plan, s: &mut Cascade, high: bool, g: u32, q: u32) -> Look
     let x = p[plan_tree::HUBS
         + (g as usize - 1) * plan_tree::PER_HUB
         + (plan_tree::PORT + q as usize)];
-    if plan_tree::HUB_CODE < x {
-        let h = x - plan_tree::HUB_CODE;
-        if cells::MOST_HUBS < h {
-            return Look::Stop;
-        }
-        go_down(s, high, g, q, h);
-        return Look::Pass(h);
-    }
     if x == plan_tree::EMPTY {
         return Look::Stop;
     }
-    point(s, high, g, (q + 1) * cells::PER_PORT);
-    Look::Node(x)
+    if x <= plan_tree::HUB_CODE {
+        point(s, high, g, (q + 1) * cells::PER_PORT);
+        return Look::Node(x);
+    }
+    let h = x - plan_tree::HUB_CODE;
+    if cells::MOST_HUBS < h {
+        return Look::Stop;
+    }
+    go_down(s, high, g, q, h);
+    Look::Pass(h)
 }
 
 // Rule 4 at a lower hub that stands at port q of hub h.
@@ -103,15 +103,14 @@ fn go_up(s: &mut Cascade, high: bool, h: u32, q: u32) -> Look
     Look::Pass(h)
 }
 
-// Rule 4 at hub g, whose mask stands at `at`: the root goes to port 1, another hands control up.
-fn hand_up(p: &Plan, s: &mut Cascade, high: bool, g: u32, at: usize) -> Look
+// Rule 4 at hub g: the root goes to port 1, another hands control up.
+fn hand_up(p: &Plan, s: &mut Cascade, high: bool, g: u32) -> Look
     requires { ⌜ (1 ≤ g) × (g ≤ most-hubs) ⌝ }
-    requires { ⌜ (at ≡ maskCell high g) × (at < pointerCell false most-hubs) ⌝ }
     ensures { λ r. ⌜ r ≡ handUpBy (now (p .entry)) high g (now (s .entry)) .look ⌝ }
     ensures { λ r. ⌜ now (s .exit) ≡ handUpBy (now (p .entry)) high g (now (s .entry)) .cells ⌝ }
 {
     if g == 1 {
-        s[at + cells::POINTER] = cells::PORT_1;
+        point(s, high, 1, cells::PORT_1);
         return Look::Round;
     }
     let own = plan_tree::HUBS + (g as usize - 1) * plan_tree::PER_HUB;
@@ -132,7 +131,7 @@ fn look(p: &Plan, s: &mut Cascade, high: bool, g: u32) -> Look
     let at = mask_cell(high, g);
     match ports::lowest(s[at], s[at + cells::POINTER] / cells::PER_PORT) {
         Found::Port(q) => take(p, s, high, g, q),
-        Found::Nothing => hand_up(p, s, high, g, at),
+        Found::Nothing => hand_up(p, s, high, g),
     }
 }
 

@@ -1,28 +1,20 @@
 -- `hand_up` meets its contract: the root goes round, and another hub goes up.
 use mathlib.Core.Path.{sym, ap, _∙_}
-use Prim.Native.Nat.{ℕ}
 use native.Mathlib.Omega.{arith}
-use lib.ListN.{set}
 use Rattle.cells.specs.Turns.{Looked}
 use Rattle.control.proofs.Looks.{looked, root-round, handed-up}
 use borrow.Author.Needs.{needs}
 use Rattle.control.proofs.hand_up.Statement.{statement}
 use Rattle.control.proofs.hand_up.Tie as tie
 
-add-s : tie.Need-add-s
-add-s c = search needs
-
-mul-s : tie.Need-mul-s
-mul-s c = search needs
-
-element-write-s : tie.Need-element-write-s
-element-write-s c = search needs
+point-requires : tie.Need-point-requires
+point-requires c κs = search needs
 
 returns : tie.Need-returns
 returns c =
-    let a = c .before .args in
+    let a = c .before .before .before .args in
     let e = looked (root-round (a .p .now) (a .high) (a .g) (a .s .now) (omega arith)) in
-    (e .0, ap (λ (n : ℕ). set (a .s .now) n 2) (omega arith) ∙ e .1)
+    (e .0, c .point .ensures ∙ e .1)
 
 sub-own : tie.Need-sub-own
 sub-own c = search needs
@@ -66,9 +58,7 @@ pub hand-up-spec : {M : Type 1} → statement M
 hand-up-spec =
     tie.close
     (tie.spec
-    add-s
-    mul-s
-    element-write-s
+    point-requires
     returns
     sub-own
     mul-own

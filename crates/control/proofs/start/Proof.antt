@@ -2,9 +2,7 @@
 use mathlib.Core.Path.{sym, ap, ap₂, _∙_}
 use Prim.Native.Nat.{ℕ}
 use native.Mathlib.Omega.{arith}
-use lib.ListN.{getD}
 use Rattle.rules.specs.Control.{most-looks}
-use Rattle.cells.specs.Layout.{holder-cell}
 use Rattle.cells.specs.Turns.{walkBy}
 use Rattle.cells.specs.declared.Turn.{Turn}
 use Rattle.control.proofs.Looks.{byte-digit}

@@ -2,7 +2,7 @@
 -- Each return is a law of Walks, by what the look answered. The measure is the looks that are left.
 use borrow.Author.Needs.{needs}
 use borrow.Author.Tests.{ltb-true, ltb-false}
-use mathlib.Core.Path.{_≡_, refl, sym, ap, _∙_}
+use mathlib.Core.Path.{_≡_, sym, ap, _∙_}
 use mathlib.Core.Logic.{⊎-elim}
 use Prim.Native.Nat.{ℕ, _+_, _-_, _≤_}
 use native.Mathlib.Omega.{arith}
@@ -21,13 +21,8 @@ abbrev μ-loop : tie.MeasureT-loop
 μ-loop p s₀ high from before g₀ moves₀ looks₀ s g moves looks = looks
 
 -- the walk from the start, wherever the loop has come
-module _ (l : tie.At-loop Inv-loop μ-loop) where
-  abbrev all : Turned
-  all = let a = l .before .args in walkBy (a .p .now) (a .high) most-looks (a .from) (a .before) (a .s .now)
-
-  -- the walk from here
-  abbrev here : Turned
-  here = let a = l .before .args in walkBy (a .p .now) (a .high) (l .loop .looks) (l .loop .g) (l .loop .moves) (l .loop .s)
+abbrev all : tie.At-loop Inv-loop μ-loop → Turned
+all l = let a = l .before .args in walkBy (a .p .now) (a .high) most-looks (a .from) (a .before) (a .s .now)
 
 -- behind the tests there is a look, whose answer and cells are those of the definition
 module _ (w : tie.After-look Inv-loop μ-loop) where
@@ -71,7 +66,9 @@ module _ (w : tie.After-look Inv-loop μ-loop) where
       (omega (arith, ltb-false)) (w .look .last .1 .0) (w .look .ensures .1) (sym (w .look .ensures .0) ∙ e)
 
 loop-holds : tie.Need-loop-holds Inv-loop μ-loop
-loop-holds c = (refl, omega arith)
+loop-holds c =
+    let a = c .args in
+    (ap (λ (n : ℕ). walkBy (a .p .now) (a .high) n (a .from) (a .before) (a .s .now)) (omega arith), omega arith)
 
 nobody-requires : tie.Need-nobody-requires Inv-loop μ-loop
 nobody-requires c κs = search needs
