@@ -48,13 +48,13 @@ module _ (P : List ℕ) (isHigh : Bool) where
       else mend levels (getD P (plan.parentCell g) 0) (getD P (plan.placeCell g) 0) (anyPort (shows mask)) left)
       s
 
--- node k's bit in a class, by its request x and what its cells say beside it
+-- node k's bit in a class, by its request x, its high grants in the frame and its reservation in force
 unfoldable pub mendBit : List ℕ → Bool → ℕ → ℕ → List ℕ → List ℕ
 mendBit P isHigh k x s =
     mend P isHigh most-levels (plan.hubOfNode P k) (plan.portOfNode P k)
     (countsBy isHigh x (getD s (grantedCell k) 0) (getD s (forceCell k) 0)) s
 
--- the same where x came in place of `old`: in a class that neither stands in nothing has changed
+-- the same where x comes in place of `old`: only in a class that one of the two stands in. In another nothing counted, and nothing counts
 unfoldable pub mendClass : List ℕ → Bool → ℕ → ℕ → ℕ → List ℕ → List ℕ
 mendClass P isHigh k old x s = if standsIn isHigh x || standsIn isHigh old then mendBit P isHigh k x s else s
 

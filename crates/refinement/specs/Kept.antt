@@ -64,7 +64,7 @@ NoMask i = (isHigh : Bool) (g : ℕ) → Within 32 g → i ≡ maskCell isHigh g
 abbrev pub SameButMasks : List ℕ → List ℕ → Type 0
 SameButMasks s r = (i : ℕ) → NoMask i → getD r i 0 ≡ getD s i 0
 
--- the masks are right for what counts, but perhaps for node k, whose request was `old` when they were
+-- the masks are right for what counts, but perhaps for node k: they are for what counted earlier, when its request was `old`
 pub record RightBut (p : Plan) (k old : ℕ) (isHigh : Bool) (s : List ℕ) : Type 0 where
   pub earlier : ℕ → Bool
   pub own : earlier k ≡ true → standsIn isHigh old ≡ true

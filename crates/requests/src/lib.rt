@@ -101,7 +101,7 @@ fn mend(p: &Plan, s: &mut Cascade, high: bool, g: u32, q: u32, b: bool, levels: 
     );
 }
 
-// Node k's bit in a class, by its request x and what its cells say beside it.
+// Node k's bit in a class, by its request x, its high grants in the frame and its reservation in force.
 fn put_bit(p: &Plan, s: &mut Cascade, high: bool, k: u32, x: u32)
     requires { ⌜ (1 ≤ k) × (k ≤ most-nodes) ⌝ }
     ensures { λ _. ⌜ now (s .exit) ≡ mendBit (now (p .entry)) high k x (now (s .entry)) ⌝ }
@@ -120,8 +120,8 @@ fn put_bit(p: &Plan, s: &mut Cascade, high: bool, k: u32, x: u32)
     );
 }
 
-// Node k's bits where x came in place of `old`. Each way through the tests names its class, and so
-// the compiler knows the bit there: nearly always one of the two requests stands and one class is concerned.
+// Node k's bits where x comes in place of `old`. Nearly always one of the two stands, and one class is concerned.
+// Each way through the tests names its class, so that the compiler knows there what the bit becomes.
 fn put_bits(p: &Plan, s: &mut Cascade, k: u32, old: u32, x: u32)
     requires { ⌜ (1 ≤ k) × (k ≤ most-nodes) ⌝ }
     ensures { λ _. ⌜ now (s .exit) ≡ mendClass (now (p .entry)) true k old x (mendClass (now (p .entry)) false k old x (now (s .entry))) ⌝ }
@@ -169,6 +169,18 @@ fn standing_after(n: u32, old: u32, new: u32) -> u32
     n
 }
 
+// Node k's request becomes x. The callers have tested k, so that a grant tests it once.
+fn replace(p: &Plan, s: &mut Cascade, k: u32, x: u32)
+    requires { ⌜ (1 ≤ k) × (k ≤ most-nodes) ⌝ }
+    ensures { λ _. ⌜ now (s .exit) ≡ putRequest (now (p .entry)) k x (now (s .entry)) ⌝ }
+{
+    let at = cells::REQUEST + (k as usize - 1);
+    let old = s[at];
+    s[cells::STANDING] = standing_after(s[cells::STANDING], old, x);
+    s[at] = x;
+    put_bits(p, s, k, old, x);
+}
+
 // Node k's request becomes x. A number that is no node changes nothing.
 pub fn put_request(p: &Plan, s: &mut Cascade, k: u32, x: u32)
     ensures { λ _. ⌜ now (s .exit) ≡ putRequest (now (p .entry)) k x (now (s .entry)) ⌝ }
@@ -179,11 +191,7 @@ pub fn put_request(p: &Plan, s: &mut Cascade, k: u32, x: u32)
     if cells::MOST_NODES < k {
         return;
     }
-    let at = cells::REQUEST + (k as usize - 1);
-    let old = s[at];
-    s[cells::STANDING] = standing_after(s[cells::STANDING], old, x);
-    s[at] = x;
-    put_bits(p, s, k, old, x);
+    replace(p, s, k, x);
 }
 
 fn granted_more(high: bool, n: u32) -> u32
@@ -207,7 +215,7 @@ pub fn grant_node(p: &Plan, s: &mut Cascade, high: bool, k: u32)
     }
     let at = cells::GRANTED + (k as usize - 1);
     s[at] = granted_more(high, s[at]);
-    put_request(p, s, k, 0);
+    replace(p, s, k, 0);
 }
 
 // The pointers of hubs n to 1 are port 1, without mark.

@@ -35,8 +35,8 @@ mul-s c = search needs
 element-write-s : tie.Need-element-write-s
 element-write-s c = search needs
 
-put-request-requires : tie.Need-put-request-requires
-put-request-requires c κs = search needs
+replace-requires : tie.Need-replace-requires
+replace-requires c κs = search needs
 
 returns-3 : tie.Need-returns-3
 returns-3 c =
@@ -44,7 +44,7 @@ returns-3 c =
     let inside = told .before .before in
     let a = inside .before .before .args in
     granted (a .p .now) (a .k) (a .s .now) (a .high) (inside .before .if1 .left) (inside .if2 .left)
-    (told .granted-more .result) (c .put-request .last .1 .0) (told .granted-more .ensures) (c .put-request .ensures)
+    (told .granted-more .result) (c .replace .last .1 .0) (told .granted-more .ensures) (c .replace .ensures)
 
 pub grant-node-spec : {M : Type 1} → statement M
 grant-node-spec =
@@ -59,5 +59,5 @@ grant-node-spec =
     granted-more-requires
     mul-s
     element-write-s
-    put-request-requires
+    replace-requires
     returns-3)
