@@ -1,7 +1,7 @@
 -- `text_run::holds_any` meets its contract: no log is longer than 18 bytes for each byte that is read, or a refused plan's line. Assumes nothing.
 use mathlib.Core.Path.{ap, _∙_}
 use mathlib.Core.Bool.{false≢true}
-use Prim.Native.Nat.{_*_, _≤_}
+use Prim.Native.Nat.{_≤_}
 use borrow.Author.Needs.{needs}
 use borrow.Author.Tests.{leb-true}
 use native.Mathlib.Omega.{arith}
@@ -31,7 +31,7 @@ returns-2 : tie.Need-returns-2
 returns-2 c = λ e.
     let r = c .before .handed in
     let a = c .before .before .before .args in
-    log-room (a .text .now) (a .room) (omega arith) (rw (ap length (r .ensures)) at (leb-true (18 * length (r .result .now)) (a .room) e))
+    log-room (a .text .now) (a .room) (omega arith) (omega (arith, leb-true, ap length (r .ensures)))
 
 pub holds-any-spec : {M : Type 1} → statement M
 holds-any-spec = tie.close (tie.spec handed-requires returns mul-result returns-2)

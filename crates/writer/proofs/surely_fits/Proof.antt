@@ -1,6 +1,5 @@
 -- `writer::surely_fits` meets its contract: where it answers yes, the last test holds. Assumes nothing.
 use mathlib.Core.Bool.{false≢true}
-use Prim.Native.Nat.{_+_, _-_, _*_}
 use borrow.Author.Needs.{needs}
 use borrow.Author.Tests.{leb-true}
 use native.Mathlib.Omega.{arith}
@@ -20,7 +19,7 @@ returns-2 : tie.Need-returns-2
 returns-2 c = λ e. absurd (false≢true e)
 
 returns-3 : tie.Need-returns-3
-returns-3 c = λ e. let a = c .before .before .args in omega (arith, leb-true (a .word) (a .room - (21 * a .count + 2)) e)
+returns-3 c = λ e. omega (arith, leb-true)
 
 pub surely-fits-spec : {M : Type 1} → statement M
 surely-fits-spec = tie.close (tie.spec returns mul-most add-most returns-2 returns-3)
