@@ -3,9 +3,9 @@ use Prim.Native.Nat.{ℕ, _+_, _-_, _*_, _/_, _≤_, _<_}
 use mathlib.Core.Path.{_≡_, refl, sym, _∙_}
 use mathlib.Core.Bool.{true, false}
 use native.Mathlib.Omega.{arith}
-use native.Mathlib.Nat.{add-mul, div-zero, le-div-iff-mul-le, div-lt-iff-lt-mul}
-use lib.Dec.{ltb, leb}
-use borrow.Author.Tests.{lt-ltb, le-ltb, leb-true, leb-false}
+use native.Mathlib.Nat.{add-mul, div-zero, div-mul-le-self, le-div-iff-mul-le, div-lt-iff-lt-mul, lt-div-mul-add}
+use lib.Dec.{ltb, leb, eqb}
+use borrow.Author.Tests.{lt-ltb, le-ltb, leb-true, leb-false, eqb-true, eqb-false}
 use Rattle.rules.proofs.Laws.Passes.{Which, which, yes′, no′}
 
 module _ (f c t : ℕ) where
@@ -17,18 +17,29 @@ module _ (f c t : ℕ) where
     next-start : (c / f + 1) * f ≡ c / f * f + f
     next-start = rw add-mul (omega arith)
 
-    pub before-start : t < c / f * f → false ≡ ltb (c / f) (t / f)
-    before-start h = sym (le-ltb (c / f) (t / f) (omega (arith, div-lt-iff-lt-mul {k = f} {x = t} {y = c / f} (omega arith) .1 h)))
+    before-next : t < c / f * f + f → t / f ≤ c / f
+    before-next h = let n = next-start in omega (arith, div-lt-iff-lt-mul {k = f} {x = t} {y = c / f + 1} (omega arith) .1 (omega arith))
 
-    pub behind-start : c / f * f ≤ t → leb f (t - c / f * f) ≡ ltb (c / f) (t / f)
+    pub behind-start : c < t → leb f (t - c / f * f) ≡ ltb (c / f) (t / f)
     behind-start l = go (which (leb f (t - c / f * f)))
       where
         go : Which (leb f (t - c / f * f)) → leb f (t - c / f * f) ≡ ltb (c / f) (t / f)
         go (yes′ e) =
             let h = leb-true f (t - c / f * f) e in
             let n = next-start in
+            let s = div-mul-le-self c f in
             e ∙ sym (lt-ltb (c / f) (t / f) (omega (arith, le-div-iff-mul-le {k = f} {x = c / f + 1} {y = t} (omega arith) .1 (omega arith))))
         go (no′ e) =
             let h = leb-false f (t - c / f * f) e in
-            let n = next-start in
-            e ∙ sym (le-ltb (c / f) (t / f) (omega (arith, div-lt-iff-lt-mul {k = f} {x = t} {y = c / f + 1} (omega arith) .1 (omega arith))))
+            let s = div-mul-le-self c f in
+            e ∙ sym (le-ltb (c / f) (t / f) (before-next (omega arith)))
+
+  -- an earlier time lies in no later frame
+  pub not-behind : t ≤ c → false ≡ ltb (c / f) (t / f)
+  not-behind l = go (which (eqb f 0))
+    where
+      go : Which (eqb f 0) → false ≡ ltb (c / f) (t / f)
+      go (yes′ e) = no-frame (eqb-true f 0 e)
+      go (no′ e) =
+          let some = eqb-false f 0 e in
+          sym (le-ltb (c / f) (t / f) (before-next some (omega (arith, lt-div-mul-add {a = c} {b = f} (omega arith)))))

@@ -84,17 +84,17 @@ fn start_frame(p: &Plan, s: &mut Cascade)
     masks::build(p, s);
 }
 
-// Whether the frame of the clock ends at t at the latest, with one division in place of one for each time.
+// Whether the frame of the clock ends at t at the latest: one division, and none where the clock doesn't move.
 fn ends_by(frame: u32, clock: u64, t: u64) -> bool
     ensures { λ r. ⌜ r ≡ ltb (clock / frame) (t / frame) ⌝ }
 {
+    if t <= clock {
+        return false;
+    }
     if frame == 0 {
         return false;
     }
     let start = clock / frame as u64 * frame as u64;
-    if t < start {
-        return false;
-    }
     frame as u64 <= t - start
 }
 
