@@ -81,8 +81,8 @@ uint32_t lembuya_list(const uint32_t plan[LEMBUYA_PLAN_CELLS], uint32_t cascade[
 
 /* The whole log of a text (plan and events, of which 65,536 bytes are looked at) into a buffer. 0, `end` is its length, and the tables are
  * those behind the last event (a refused plan leaves them as they were); or 18, the log doesn't fit, and nothing is touched: not the
- * buffer, the tables or `end`. 18 * 65536 bytes hold every log (proved: crates/log_spec/proofs/LogLength.antt), and into so many a run is
- * faster: a shorter buffer is measured first. */
+ * buffer, the tables or `end`. 18 bytes for each byte of the text that is looked at, and 33 at least, hold every log of it (proved:
+ * crates/log_spec/proofs/LogLength.antt), and into so many a run is faster: for a shorter buffer the log is measured first. */
 uint32_t lembuya_run(const uint8_t *text, size_t length, uint32_t plan[LEMBUYA_PLAN_CELLS], uint32_t cascade[LEMBUYA_CASCADE_CELLS], uint8_t *log,
                      size_t log_length, uint64_t end[1]);
 

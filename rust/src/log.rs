@@ -33,8 +33,8 @@ pub fn log(text: &[u8]) -> Vec<u8> {
 /// Writes the [log](log()) of a text into a lent buffer and gives its length. Bytes behind it are
 /// unchanged.
 ///
-/// Into a buffer shorter than [`LONGEST_LOG`] the text is run twice: whether the log fits has to be
-/// known first.
+/// Into a buffer shorter than 18 bytes for each byte of the text, or than 33, the text is run twice:
+/// whether the log fits has to be known first.
 ///
 /// # Errors
 ///

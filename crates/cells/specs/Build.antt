@@ -1,5 +1,5 @@
--- The masks built anew, with shifts and ors of what the ports show: a pass over
--- the nodes for their requests, and a pass over the hubs for their summaries.
+-- The masks built anew, with shifts and ors of what the ports show: they are cleared, then comes
+-- a pass over the nodes for their requests, and a pass over the hubs for their summaries.
 use Prim.Native.Nat.{ℕ, zero, suc, min}
 use mathlib.Core.Bool.{Bool, true, false}
 use mathlib.Core.List.{List}

@@ -26,7 +26,7 @@ startNodes (suc n) s = startNodes n (startCells (suc n) s)
 unfoldable pub startFrame : List ℕ → List ℕ → List ℕ
 startFrame P s = buildMasks P (startNodes (planIn P .nodes) s)
 
--- whether the clock's frame ends before t
+-- whether the clock's frame ends at t or before
 abbrev pub newFrame : Plan → ℕ → List ℕ → Bool
 newFrame p t s = ltb (frameOf p (timeAt s clock-cell)) (frameOf p t)
 

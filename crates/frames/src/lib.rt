@@ -98,7 +98,7 @@ fn ends_by(frame: u32, clock: u64, t: u64) -> bool
     frame as u64 <= t - start
 }
 
-// Whether the clock's frame ends before t.
+// Whether the clock's frame ends at t or before.
 pub fn new_frame(p: &Plan, s: &Cascade, t: u64) -> bool
     ensures { λ r. ⌜ r ≡ newFrame (planIn (now (p .entry))) t (now (s .entry)) ⌝ }
 {

@@ -1,4 +1,5 @@
-// The masks built anew at a frame's start: a pass over the nodes shows their requests, and a pass over the hubs their summaries.
+// The masks built anew at a frame's start: they are cleared, then a pass over the nodes shows
+// their requests, and a pass over the hubs their summaries.
 // No public function has a `requires`: each says its answer or the whole
 // table that it leaves, for every content, by a definition of `cells`.
 use cells::Cascade;

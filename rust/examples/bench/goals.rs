@@ -28,8 +28,7 @@ fn greatest(figures: impl Iterator<Item = (f64, String)>) -> (f64, String) {
 /// The goal that no ratio is above a limit.
 fn at_most(goal: &str, limit: f64, ratios: impl Iterator<Item = (f64, String)>) -> Goal {
     let (ratio, place) = greatest(ratios);
-    // Two digits are written, and these decide.
-    let met = (ratio * 100.0).round() <= limit * 100.0;
+    let met = ratio <= limit;
     Goal { goal: goal.into(), limit: format!("{limit:.2} ×"), worst: format!("{ratio:.2} ×"), place, met }
 }
 

@@ -31,13 +31,13 @@ use cases::{case, measure, Case, Row};
 use clock::Clock;
 use goals::{goal_table, goals};
 use longest::{longest, Effort};
-use page::{head, method};
+use page::{head, method, why};
 use plans::deepest;
 use tables::{call_table, growth_tables, log_table, longest_table};
 
 /// What is measured: nodes and levels. The second part shows only how the cost grows.
 const SHAPES: [(usize, usize); 8] = [(4, 1), (32, 1), (4, 2), (32, 2), (256, 2), (4, 5), (32, 5), (256, 5)];
-const GROWTH: [(usize, usize); 8] = [(1, 1), (2, 1), (8, 1), (16, 1), (64, 2), (128, 2), (32, 3), (32, 4)];
+const GROWTH: [(usize, usize); 6] = [(8, 2), (16, 2), (64, 2), (128, 2), (32, 3), (32, 4)];
 
 fn main() {
     let words: Vec<String> = std::env::args().skip(1).collect();
@@ -65,6 +65,7 @@ fn main() {
         page.clear();
         head(&mut page, main, &deepest);
         goal_table(&mut page, &all_goals);
+        why(&mut page);
         method(&mut page, effort);
         call_table(&mut page, main);
         longest_table(&mut page, main, &deepest);

@@ -44,7 +44,7 @@ pub fn head(page: &mut String, rows: &[(&Case, &Row)], deepest: &Worst) {
     writeln!(
         page,
         "# Speed\n\n\
-         The shortest packet holds the line for 5,120 ns; the hub names the next turn in at most {} ns, or {} ns ({:.0} % of that packet) where a frame starts. \
+         The shortest packet holds the line for 5,120 ns; with its tables in the cache the hub names the next turn in at most {} ns, or {} ns ({:.0} % of that packet) where a frame starts. \
          In the largest hall, 256 nodes in five levels, a call takes {call:.0} ns, and a packet needs three at most (asked, granted, and the line rests), so one core keeps up with \
          {} such lines even if all packets are the shortest. \
          A text of 65,000 bytes becomes its log in {} µs, where a good engineer's hub without proofs takes {}.\n",
@@ -86,4 +86,10 @@ pub fn method(page: &mut String, effort: Effort) {
         commas(effort.calls as f64)
     )
     .unwrap();
+}
+
+/// Why goals are missed: written by hand from counted instructions and the machine code.
+pub fn why(page: &mut String) {
+    page.push_str(include_str!("why.md"));
+    page.push('\n');
 }

@@ -43,7 +43,7 @@ pub fn call_table(page: &mut String, rows: &[(&Case, &Row)]) {
 pub fn longest_table(page: &mut String, rows: &[(&Case, &Row)], deepest: &Worst) {
     writeln!(
         page,
-        "## The longest calls\n\nNanoseconds of archive / peer / bit sets. Events have reserves among them.\n\n\
+        "## The longest calls\n\nNanoseconds of archive / peer / bit sets. Events have reserves among them, which are the longest from 32 nodes on.\n\n\
          | Plan | Step within a frame | ÷ peer | Step at a frame's start | ÷ peer | ÷ bit sets | Event within | Event at a start |\n\
          |---|---|---|---|---|---|---|---|"
     )
@@ -73,7 +73,7 @@ pub fn longest_table(page: &mut String, rows: &[(&Case, &Row)], deepest: &Worst)
 pub fn log_table(page: &mut String, rows: &[(&Case, &Row)]) {
     writeln!(
         page,
-        "## Whole logs\n\nMicroseconds of a text of 65,000 bytes under full load: the text is read, the hub run and the log written.\n\n\
+        "## Whole logs\n\nMicroseconds of a text of 65,000 bytes under full load: the text is read, the hub run and the log written. The peer's plan is read by the reference, which allocates.\n\n\
          | Plan | `lembuya_run` | peer | ÷ peer | `lembuya_run` into a buffer just as long as the log |\n|---|---|---|---|---|"
     )
     .unwrap();
@@ -89,12 +89,12 @@ pub fn log_table(page: &mut String, rows: &[(&Case, &Row)]) {
 pub fn growth_tables(page: &mut String, all: &[(&Case, &Row)]) {
     writeln!(
         page,
-        "## Growth\n\nNanoseconds of archive / peer / bit sets: with nodes, one level up to 32 and two above; with levels, at 32 nodes.\n"
+        "## Growth\n\nNanoseconds of archive / peer / bit sets: with nodes, at two levels; with levels, at 32 nodes.\n"
     )
     .unwrap();
     let mut sorted = all.to_vec();
     sorted.sort_by_key(|(case, _)| (case.nodes, case.levels));
-    let by_nodes = sorted.iter().filter(|(case, _)| case.levels == if case.nodes <= 32 { 1 } else { 2 });
+    let by_nodes = sorted.iter().filter(|(case, _)| case.levels == 2);
     growth_table(page, "Nodes", by_nodes.map(|(case, row)| (case.nodes, *row)).collect());
     let by_levels = sorted.iter().filter(|(case, _)| case.nodes == 32);
     growth_table(page, "Levels", by_levels.map(|(case, row)| (case.levels, *row)).collect());

@@ -24,7 +24,7 @@ enum Junk {
     Real,
 }
 
-/// A cascade's figures, hubs and first requests: the cells that every call looks at lie among these.
+/// A cascade's figures, hubs and first requests: many of the cells that calls look at lie among these.
 const FRONT: usize = cascade::NODES + 4;
 
 const JUNKS: [Junk; 7] =

@@ -1,4 +1,5 @@
--- `event_lines::event_at` meets its contract, by the laws of EventLaws: behind each word the numbers that were read, or none. Assumes nothing.
+-- `event_lines::event_at` meets its contract, by the laws of EventLaws: behind each word the numbers that
+-- were read, or none. Assumes nothing.
 use mathlib.Core.Path.{_≡_, sym, _∙_}
 use mathlib.Core.Bool.{true, false}
 use mathlib.Core.List.{List}

@@ -1,4 +1,5 @@
--- `text::digits_from` meets its contract. The loop's invariant: what is to be read behind the digits before `at` is what is to be read behind
+-- `text::digits_from` meets its contract. The loop's invariant: what is to be read behind the digits before
+-- `at` is what is to be read behind
 -- those before p, which made v, where l digits may follow. The measure is what is left of the text. Assumes nothing.
 use mathlib.Core.Path.{_≡_, refl, sym, ap, _∙_}
 use mathlib.Core.Bool.{true}

@@ -1,4 +1,5 @@
--- `text::past_plain` meets its contract. The loop's invariant: no LF stands between the place and i. The measure is what is left of the text.
+-- `text::past_plain` meets its contract. The loop's invariant: no LF stands between the place and i. The
+-- measure is what is left of the text.
 -- Assumes nothing.
 use mathlib.Core.Path.{_≡_}
 use mathlib.Core.Bool.{false}

@@ -1,4 +1,5 @@
--- `text_run::holds_any` meets its contract: no log is longer than 18 bytes for each byte that is read, or a refused plan's line. Assumes nothing.
+-- `text_run::holds_any` meets its contract: no log is longer than 18 bytes for each byte that is read, or a
+-- refused plan's line. Assumes nothing.
 use mathlib.Core.Path.{ap, _∙_}
 use mathlib.Core.Bool.{false≢true}
 use Prim.Native.Nat.{_≤_}
