@@ -1,5 +1,5 @@
--- A list of calls worked out by hand, over the cells: of each kind one writes as many masks as it
--- may within a frame, and one as many as it may where a frame starts.
+-- A list of calls worked out by hand, over the cells: an ask, a step and an `off` that write as many masks
+-- as they may within a frame, and an ask that writes as many as it may where a frame starts.
 use Prim.Native.Nat.{ℕ}
 use mathlib.Core.Path.{_≡_}
 use mathlib.Core.List.{List, [], _∷_, map, reverse}
