@@ -36,7 +36,7 @@ walkByLooks P isHigh zero g s = 0
 walkByLooks P isHigh (suc looks) g s =
     ifHub g (afterLookLooks (walkByLooks P isHigh looks) (lookBy P isHigh g s .look) (lookBy P isHigh g s .cells)) 0
 
--- beside `nearestBy`: one for each hub from g up to the root
+-- beside `nearestBy`: a test of the pointer of each hub from g up to the root, in one pass
 unfoldable pub nearestByLooks : List ℕ → ℕ → ℕ → ℕ
 nearestByLooks P zero g = 0
 nearestByLooks P (suc levels) g = ifHub g (if eqb g 1 then 1 else nearestByLooks P levels (getD P (plan.parentCell g) 0) + 1) 0

@@ -49,7 +49,7 @@ mendBitWrites P isHigh k x s =
 unfoldable pub mendClassWrites : List ℕ → Bool → ℕ → ℕ → ℕ → List ℕ → ℕ
 mendClassWrites P isHigh k old x s = if standsIn isHigh x || standsIn isHigh old then mendBitWrites P isHigh k x s else 0
 
--- beside `putRequest`: of both classes
+-- beside `putRequest`: of both classes; of one that neither the old request nor the new stands in, none
 unfoldable pub putRequestWrites : List ℕ → ℕ → ℕ → List ℕ → ℕ
 putRequestWrites P k x s =
     let old = getD s (requestCell k) 0 in

@@ -1,9 +1,9 @@
 -- The entry points meet the demands: every list of the six calls, from the fresh table of any plan text that is taken.
 use Prim.Native.Nat.{ℕ, _-_, _*_, _≤_}
 use mathlib.Core.Path.{_≡_, refl, sym, ap, ap₂, subst, subst₂, _∙_}
-use mathlib.Core.List.{List, map}
+use mathlib.Core.List.{List, [], _∷_, map}
 use Rattle.rules.specs.Plan.{Plan, levels}
-use Rattle.rules.specs.Call.{Call}
+use Rattle.rules.specs.Call.{Call, Answer}
 use Rattle.rules.specs.Core.{Core}
 use Rattle.rules.specs.Machine.{Hub, perform}
 use Rattle.rules.specs.Control.{Control, control}
@@ -13,7 +13,7 @@ use Rattle.rules.specs.Demand.{Holds3}
 use Rattle.rules.specs.AnyMoment.{AnyMoment}
 use Rattle.rules.specs.Saving.{SavesOn}
 use Rattle.rules.specs.Travel.{Travels}
-use Rattle.rules.specs.Looks.{FewLooks}
+use Rattle.rules.specs.Looks.{callLooks, mostInCall, PlaceOf, FewLooks}
 use Rattle.rules.specs.Promises.{NoTimeLost, Admits}
 use Rattle.rules.proofs.Core.Acceptance.{acceptable-taken, taken-acceptable}
 use Rattle.rules.proofs.Core.AlwaysSound.{Good, good}
@@ -26,6 +26,7 @@ use Rattle.demands.proofs.Promises.{drawn-promises}
 use Rattle.cells.specs.Layout.{timeAt, clock-cell}
 use Rattle.cells.specs.Decode.{planIn, coreOf, hubOf}
 use Rattle.cells.specs.Calls.{performBy}
+use Rattle.cells.specs.Looks.{looksBy}
 use Rattle.cells.specs.Run.{madeBy}
 use Rattle.refinement.specs.Kept.{Ready}
 use Rattle.refinement.proofs.ReadyPlan.{ready, plan-in}
@@ -76,6 +77,21 @@ module _ (P : List ℕ) (R : Ready P) (past : List Entry) (m : Made P past (made
   left-clock : (call : Call) → perform p (control p) call (hubOf p s) .hub .core .clock ≡ timeAt (performBy P call s .cells) clock-cell
   left-clock call = ap (λ (h : Hub Control). h .core .clock) (sym (leaves call)) ∙ clock-cells p (performBy P call s .cells)
 
+  -- the latest call of the list with one call more
+  one-more : (call : Call) → PlaceOf (made p (control p) (call ∷ calls) .past)
+  unfolding made
+  one-more call =
+      let latest : Entry = record { call = call; answer = perform p (control p) call (made p (control p) calls .hub) .answer } in
+      record { before = past; entry = latest; later = []; place = ap (λ (es : List Entry). latest ∷ es) (sym same) }
+
+  looks-few : (call : Call) → looksBy P call s ≤ mostInCall p
+  unfolding one-more
+  looks-few call =
+      subst (λ (n : ℕ). n ≤ mostInCall p) (sym (same-looks P R s (tied .kept) fine call))
+      (subst (λ (a : Answer). callLooks p (hubOf p s) a ≤ mostInCall p) (sym (agrees call .answer))
+      (subst (λ (h : Hub Control). callLooks p h (perform p (control p) call h .answer) ≤ mostInCall p) (sym (tied .hub))
+      (drawn-promises p (R .drawn) (call ∷ calls) .few-looks .few (one-more call))))
+
   meets : Demands P p past s
   meets =
       record {
@@ -85,6 +101,7 @@ module _ (P : List ℕ) (R : Ready P) (past : List Entry) (m : Made P past (made
         travels = subst (Travels p) (sym same) (kept .travels);
         few-looks = subst (FewLooks p) (sym same) (kept .few-looks);
         looks-are = same-looks P R s (tied .kept) fine;
+        looks-few = looks-few;
         few-writes = few-writes P R s (λ call.
             subst₂ (Tells p call) (sym (agrees call .answer)) (left-clock call)
             (tells p (R .drawn .figures) (control p) (control-follows p (R .drawn)) (hubOf p s) fine call));

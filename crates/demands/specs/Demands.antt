@@ -28,7 +28,7 @@ use Rattle.rules.specs.Run.{Entry, made}
 use Rattle.rules.specs.Agree.{plain, movesOf, Every}
 use Rattle.rules.specs.Saving.{SavesOn}
 use Rattle.rules.specs.Travel.{Travels}
-use Rattle.rules.specs.Looks.{callLooks, FewLooks}
+use Rattle.rules.specs.Looks.{callLooks, mostInCall, FewLooks}
 use Rattle.rules.specs.Demand.{Holds3}
 use Rattle.rules.specs.AnyMoment.{AnyMoment}
 use Rattle.rules.specs.Promises.{NoTimeLost, Admits, Acceptable}
@@ -94,9 +94,11 @@ module _ (P : List ℕ) (p : Plan) (past : List Entry) (s : List ℕ) where
     pub travels : Travels p past
     -- The worst case: at most 4 × L - 1 looks at a hub in each call, and 3 × L - 1 where the class is that of the latest grant
     pub few-looks : FewLooks p past
-    -- which are the looks that each further call makes over the cells
+    -- which are the looks that each further call makes over the cells: so few there too
     pub looks-are : (call : Call) → looksBy P call s ≡ callLooks p (hubOf p s) (answerTo call)
-    -- and in each further call at most 2 × L mask cells written within a frame, and 4 × H + N - 2 more where a frame starts
+    pub looks-few : (call : Call) → looksBy P call s ≤ mostInCall p
+    -- and in each further call few mask cells written: within a frame at most 2 × L by a request that comes,
+    -- L by `off` and by a step, and none by another; where a frame starts at most 4 × H + N - 2 more
     pub few-writes : FewWrites P p s
     -- Demand 3, one claim over the whole list
     pub demand-3 : Holds3 p past

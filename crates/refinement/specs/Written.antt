@@ -8,7 +8,7 @@ use lib.Dec.{eqb}
 use lib.ListN.{getD}
 use Rattle.rules.specs.Choice.{if_then_else_, sum}
 use Rattle.rules.specs.Plan.{Plan, most-hubs, levels}
-use Rattle.rules.specs.Call.{Call}
+use Rattle.rules.specs.Call.{Call, ask, off, reserve, until, step}
 use Rattle.rules.specs.Core.{frameOf}
 use Rattle.cells.specs.Layout.{clock-cell, timeAt, maskCell}
 use Rattle.cells.specs.Calls.{performBy}
@@ -22,11 +22,16 @@ differs s r i = if eqb (getD r i 0) (getD s i 0) then 0 else 1
 abbrev pub changedMasks : List ℕ → List ℕ → ℕ
 changedMasks s r = sum most-hubs (λ g. differs s r (maskCell false g) + differs s r (maskCell true g))
 
--- in each class one mask of each level
-abbrev pub mostInFrame : Plan → ℕ
-mostInFrame p = 2 * levels p
+-- within a frame: one mask of each level, in each class that the call concerns. A request can come in place
+-- of one of the other class, and then it concerns both; one that is removed, by `off` or by its grant, its own
+abbrev pub mostBy : Plan → Call → ℕ
+mostBy p (ask c t k b) = 2 * levels p
+mostBy p (off t k) = levels p
+mostBy p (reserve t k n b) = 0
+mostBy p (until t) = 0
+mostBy p (step t) = levels p
 
--- at a frame's start: both masks of each hub are cleared, each node's port is shown
+-- more at a frame's start: both masks of each hub are cleared, each node's port is shown
 -- in one, and each hub but the root is shown in both masks of its parent
 abbrev pub mostAtStart : Plan → ℕ
 mostAtStart p = 2 * p .hubs + p .nodes + 2 * (p .hubs - 1)
@@ -38,8 +43,8 @@ frameIn p s = frameOf p (timeAt s clock-cell)
 -- Of every further call on the cells s
 pub record FewWrites (P : List ℕ) (p : Plan) (s : List ℕ) : Type 0 where
   -- within a frame
-  pub within : (call : Call) → frameIn p (performBy P call s .cells) ≡ frameIn p s → callWrites P call s ≤ mostInFrame p
+  pub within : (call : Call) → frameIn p (performBy P call s .cells) ≡ frameIn p s → callWrites P call s ≤ mostBy p call
   -- and where one starts
-  pub over-start : (call : Call) → callWrites P call s ≤ mostInFrame p + mostAtStart p
+  pub over-start : (call : Call) → callWrites P call s ≤ mostBy p call + mostAtStart p
   -- no mask changes that isn't counted
   pub counted : (call : Call) → changedMasks s (performBy P call s .cells) ≤ callWrites P call s

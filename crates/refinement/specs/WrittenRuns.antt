@@ -1,9 +1,9 @@
--- A list of calls worked out by hand, over the cells: one of them writes as many masks as a call
--- may within a frame, one as many as a call may where a frame starts.
+-- A list of calls worked out by hand, over the cells: an ask, a step and an `off` that write as many masks
+-- as they may within a frame, and an ask that writes as many as it may where a frame starts.
 use Prim.Native.Nat.{ℕ}
 use mathlib.Core.Path.{_≡_}
 use mathlib.Core.List.{List, [], _∷_, map, reverse}
-use Rattle.rules.specs.Call.{normal, high, Call, ask, reserve, step, Answer, taken, grant}
+use Rattle.rules.specs.Call.{normal, high, Call, ask, off, reserve, step, Answer, taken, grant}
 use Rattle.rules.specs.Run.{Entry}
 use Rattle.plan_tree.specs.Tables.{noTable, putRoot, putHub, putNode, putPorts}
 use Rattle.plan.specs.Tables.{putFigures}
@@ -11,7 +11,7 @@ use Rattle.cells.specs.Decode.{planIn}
 use Rattle.cells.specs.Run.{madeBy}
 use Rattle.cells.specs.Looks.{looksBy}
 use Rattle.cells.specs.Written.{callWrites}
-use Rattle.refinement.specs.Written.{mostInFrame, mostAtStart}
+use Rattle.refinement.specs.Written.{mostBy, mostAtStart}
 
 -- the figures of document 01's example; hub 1 has hub 2, and hub 2 has node 1
 abbrev pub two-hubs : List ℕ
@@ -22,12 +22,12 @@ unfoldable pub each : List ℕ → (List ℕ → Call → List ℕ → ℕ) → 
 each P count [] = []
 each P count (call ∷ earlier) = count P call (madeBy P earlier .cells) ∷ each P count earlier
 
--- the answers, the looks and the mask cells written of each call, and the most within a frame, and at its start
+-- of each call the answer, the looks, the mask cells written and the most of them within a frame; and the most more at its start
 pub record Figures : Type 0 where
   pub told : List Answer
   pub looked : List ℕ
   pub written : List ℕ
-  pub in-frame : ℕ
+  pub in-frame : List ℕ
   pub at-start : ℕ
 
 -- what the definitions give
@@ -37,23 +37,23 @@ figures P calls =
       told = map (λ (e : Entry). e .answer) (reverse (madeBy P (reverse calls) .past));
       looked = reverse (each P looksBy (reverse calls));
       written = reverse (each P callWrites (reverse calls));
-      in-frame = mostInFrame (planIn P);
+      in-frame = map (mostBy (planIn P)) calls;
       at-start = mostAtStart (planIn P);
     }
 
 -- node 1's normal request stands as frame 1 starts, and becomes a high one with it:
--- 4 + 7 masks. Then it becomes normal again: both masks of both hubs change
+-- 4 + 7 masks. Then it becomes normal again, both masks of both hubs change, and is removed
 abbrev pub both-ways : List Call
 both-ways =
-    reserve 0 1 1 512 ∷ ask normal 99000 1 512 ∷ step 99001 ∷ ask normal 99000 1 512 ∷ ask high 100000 1 512 ∷ ask normal 100000 1 512 ∷ []
+    reserve 0 1 1 512 ∷ ask normal 99000 1 512 ∷ step 99001 ∷ ask normal 99000 1 512 ∷ ask high 100000 1 512 ∷ ask normal 100000 1 512 ∷ off 100000 1 ∷ []
 
 abbrev pub expected : Figures
 expected =
     record {
-      told = taken ∷ taken ∷ grant 99000 1 normal 100512 1 ∷ taken ∷ taken ∷ taken ∷ [];
-      looked = 0 ∷ 0 ∷ 2 ∷ 0 ∷ 0 ∷ 0 ∷ [];
-      written = 0 ∷ 2 ∷ 2 ∷ 2 ∷ 11 ∷ 4 ∷ [];
-      in-frame = 4;
+      told = taken ∷ taken ∷ grant 99000 1 normal 100512 1 ∷ taken ∷ taken ∷ taken ∷ taken ∷ [];
+      looked = 0 ∷ 0 ∷ 2 ∷ 0 ∷ 0 ∷ 0 ∷ 0 ∷ [];
+      written = 0 ∷ 2 ∷ 2 ∷ 2 ∷ 11 ∷ 4 ∷ 2 ∷ [];
+      in-frame = 0 ∷ 4 ∷ 2 ∷ 4 ∷ 4 ∷ 4 ∷ 2 ∷ [];
       at-start = 7;
     }
 

@@ -1,4 +1,8 @@
 -- The worst case of a step: how many looks at a hub it makes, by the levels of the plan and not by its nodes.
+--
+-- A look is a search of a hub's ports from its pointer, or a test of a hub's pointer on the way up the holder's line.
+-- To read the root's two masks (whether a turn is due, and of what class), a hub's level (the moves up) or a mask
+-- that is mended is none; the masks that a call writes are counted in cells/specs/Written.antt.
 use Prim.Native.Nat.{ℕ, zero, suc, _+_, _-_, _*_, _≤_}
 use mathlib.Core.Path.{_≡_}
 use mathlib.Core.Bool.{Bool, true}
@@ -38,13 +42,15 @@ module _ (p : Plan) (c : Class) (f : ℕ → Bool) where
   walkLooks zero σ = 0
   walkLooks (suc looks) σ = lookLooks (walkLooks looks) σ (lowest p f (σ .holder) (σ .pointer c (σ .holder) .port))
 
--- to find where control turns: every hub from g up to the root is looked at once
--- (`nearestBy` in cells/specs/Turns.antt), so the count is g's level
+-- To find where control turns, from the holder g. `nearest` says which hub that is and not how it is found: as it is
+-- written, it goes through the line above each hub anew, with up to L × (L - 1) / 2 tests at L levels. The code finds
+-- the same hub in one pass up the line (`nearestBy` in cells/specs/Turns.antt), and that is what is counted: one test of
+-- each hub from g up to the root, so g's level
 unfoldable pub nearestLooks : Plan → ℕ → ℕ → ℕ
 nearestLooks p zero g = 0
 nearestLooks p (suc l) g = if eqb g 1 then 1 else nearestLooks p l (p .parent g) + 1
 
--- in a turn of class c, beside `chooseBy`
+-- in a turn of class c: the walk of `chooseBy`, and before it, where the class changes, that pass
 unfoldable pub chooseLooks : Plan → Class → (ℕ → Bool) → Control → ℕ
 chooseLooks p c f σ =
     if same c (σ .latest) then walkLooks p c f most-looks σ

@@ -1,4 +1,5 @@
--- Of one call on cells of a plan that is taken: within a frame it writes at most 2 × L mask cells, and over a frame's start few more.
+-- Of one call on cells of a plan that is taken: within a frame it writes at most L mask cells in each class that it concerns, and over a
+-- frame's start few more.
 use Prim.Native.Nat.{ℕ, _+_, _≤_}
 use mathlib.Core.Path.{_≡_}
 use mathlib.Core.List.{List}
@@ -21,8 +22,8 @@ use Rattle.cells.specs.Turns.{chooseBy}
 use Rattle.cells.specs.Calls.{rowBy, grantBy, restBy, handledBy, stepDue, stepBy, eventAnswer, stepAnswer, eventLeft, performBy}
 use Rattle.cells.specs.Written.{advanceWrites, changeWrites, eventWrites, grantWrites, handledWrites, stepDueWrites, stepWrites, callWrites}
 use Rattle.refinement.specs.Kept.{Ready}
-use Rattle.refinement.specs.Written.{mostInFrame, mostAtStart, frameIn, FewWrites}
-use Rattle.refinement.proofs.Written.Counts.{request-few, grant-few, build-few}
+use Rattle.refinement.specs.Written.{mostBy, mostAtStart, frameIn, FewWrites}
+use Rattle.refinement.proofs.Written.Counts.{request-few, removal-few, grant-few, build-few}
 use Rattle.refinement.proofs.Written.Told.{Named, Tells}
 use Rattle.refinement.proofs.Written.Counted.{call-counted}
 
@@ -31,12 +32,12 @@ module _ (P : List ℕ) (R : Ready P) (s : List ℕ) where
   p = planIn P
 
   -- n writes of a call that leaves the clock at `now`
-  record Few (n now : ℕ) : Type 0 where
-    within : frameOf p now ≡ frameIn p s → n ≤ mostInFrame p
-    over-start : n ≤ mostInFrame p + mostAtStart p
+  record Few (call : Call) (n now : ℕ) : Type 0 where
+    within : frameOf p now ≡ frameIn p s → n ≤ mostBy p call
+    over-start : n ≤ mostBy p call + mostAtStart p
 
-  none : (now : ℕ) → Few 0 now
-  none now = record { within = λ e. omega arith; over-start = omega arith }
+  none : (call : Call) (now : ℕ) → Few call 0 now
+  none call now = record { within = λ e. omega arith; over-start = omega arith }
 
   -- a frame's start, where the clock comes to t
   start-few : (t : ℕ) → advanceWrites P t s ≤ mostAtStart p
@@ -52,63 +53,65 @@ module _ (P : List ℕ) (R : Ready P) (s : List ℕ) where
   no-start t e = rw (le-ltb (frameIn p s) (frameOf p t) (omega arith))
 
   -- so a change behind it
-  behind : (n t now : ℕ) → n ≤ mostInFrame p → now ≡ t → Few (n + advanceWrites P t s) now
-  behind n t now l e =
+  behind : (call : Call) (n t now : ℕ) → n ≤ mostBy p call → now ≡ t → Few call (n + advanceWrites P t s) now
+  behind call n t now l e =
       record {
         within = λ f. omega (arith, no-start t (rw e at f));
         over-start = omega (arith, start-few t);
       }
 
-  change-few : (call : Call) (r : List ℕ) → Named p call → changeWrites P call r ≤ mostInFrame p
+  change-few : (call : Call) (r : List ℕ) → Named p call → changeWrites P call r ≤ mostBy p call
   unfolding changeWrites
-  change-few (ask c t k b) r w = request-few P R k w (requestCode (standing c b)) r
-  change-few (off t k) r w = request-few P R k w 0 r
+  change-few (ask c t k b) r w = omega (arith, request-few P R k w (requestCode (standing c b)) r)
+  change-few (off t k) r w = omega (arith, removal-few P R k w r)
   change-few (reserve t k n b) r w = omega arith
   change-few (until t) r w = omega arith
   change-few (step t) r w = omega arith
 
-  event-few : (call : Call) (now : ℕ) → Tells p call (eventAnswer (rowBy P call s)) now → Few (eventWrites P call s) now
+  event-few : (call : Call) (now : ℕ) → Tells p call (eventAnswer (rowBy P call s)) now → Few call (eventWrites P call s) now
   unfolding eventWrites
   event-few call now told = go (which (eqb (rowBy P call s) 0))
     where
-      go : Which (eqb (rowBy P call s) 0) → Few (eventWrites P call s) now
+      go : Which (eqb (rowBy P call s) 0) → Few call (eventWrites P call s) now
       go (yes′ e) =
           let (w, i) = rw e at told in
-          rw e (behind (changeWrites P call (advanceBy P (time call) s)) (time call) now (change-few call (advanceBy P (time call) s) w) i)
-      go (no′ e) = rw e (none now)
+          rw e (behind call (changeWrites P call (advanceBy P (time call) s)) (time call) now (change-few call (advanceBy P (time call) s) w) i)
+      go (no′ e) = rw e (none call now)
 
-  handled-few : (call : Call) (d now : ℕ) (x : Sought) (r : List ℕ) → Tells p call (stepAnswer (handledBy P d x r .answer)) now
-      → Few (handledWrites P x r + advanceWrites P d s) now
-  unfolding handledBy grantBy restBy stepAnswer handledWrites grantWrites
-  handled-few call d now (seek.Class isHigh) r (w, e) =
-      behind (handledWrites P (seek.Class isHigh) r) d now
-      (grant-few P R (chooseBy P isHigh r .turn .node) w isHigh (chooseBy P isHigh r .cells)) e
-  handled-few call d now seek.Nothing r e = behind 0 d now (omega arith) e
+  -- of a step
+  module _ (t now : ℕ) where
+    handled-few : (d : ℕ) (x : Sought) (r : List ℕ) → Tells p (step t) (stepAnswer (handledBy P d x r .answer)) now
+        → Few (step t) (handledWrites P x r + advanceWrites P d s) now
+    unfolding handledBy grantBy restBy stepAnswer handledWrites grantWrites
+    handled-few d (seek.Class isHigh) r (w, e) =
+        behind (step t) (handledWrites P (seek.Class isHigh) r) d now
+        (omega (arith, grant-few P R (chooseBy P isHigh r .turn .node) w isHigh (chooseBy P isHigh r .cells))) e
+    handled-few d seek.Nothing r e = behind (step t) 0 d now (omega arith) e
 
-  due-few : (call : Call) (now : ℕ) (x : Due) (t : ℕ) → Tells p call (stepAnswer (stepDue P x t s .answer)) now → Few (stepDueWrites P x t s) now
-  unfolding stepDue stepDueWrites
-  due-few call now Never t told = none now
-  due-few call now (At d) t told = go (which (ltb d t))
-    where
-      go : Which (ltb d t) → Few (stepDueWrites P (At d) t s) now
-      go (yes′ l) = rw l (handled-few call d now (soughtBy (advanceBy P d s)) (advanceBy P d s) (rw l at told))
-      go (no′ l) = rw l (none now)
+    due-few : (x : Due) → Tells p (step t) (stepAnswer (stepDue P x t s .answer)) now → Few (step t) (stepDueWrites P x t s) now
+    unfolding stepDue stepDueWrites
+    due-few Never told = none (step t) now
+    due-few (At d) told = go (which (ltb d t))
+      where
+        go : Which (ltb d t) → Few (step t) (stepDueWrites P (At d) t s) now
+        go (yes′ l) = rw l (handled-few d (soughtBy (advanceBy P d s)) (advanceBy P d s) (rw l at told))
+        go (no′ l) = rw l (none (step t) now)
 
-  step-few : (call : Call) (now t : ℕ) → Tells p call (stepAnswer (stepBy P t s .answer)) now → Few (stepWrites P t s) now
-  unfolding stepBy stepWrites
-  step-few call now t told = go (which (eqb (rowBy P (step t) s) 0))
-    where
-      go : Which (eqb (rowBy P (step t) s) 0) → Few (stepWrites P t s) now
-      go (yes′ e) = rw e (due-few call now (dueBy p s) t (rw e at told))
-      go (no′ e) = rw e (none now)
+    step-few : Tells p (step t) (stepAnswer (stepBy P t s .answer)) now → Few (step t) (stepWrites P t s) now
+    unfolding stepBy stepWrites
+    step-few told = go (which (eqb (rowBy P (step t) s) 0))
+      where
+        go : Which (eqb (rowBy P (step t) s) 0) → Few (step t) (stepWrites P t s) now
+        go (yes′ e) = rw e (due-few (dueBy p s) (rw e at told))
+        go (no′ e) = rw e (none (step t) now)
 
-  call-few : (call : Call) (now : ℕ) → Tells p call (performBy P call s .answer) now → Few (callWrites P call s) now
+  call-few : (call : Call) (now : ℕ) → Tells p call (performBy P call s .answer) now → Few call (callWrites P call s) now
   unfolding performBy eventLeft callWrites
   call-few (ask c t k b) now told = event-few (ask c t k b) now told
   call-few (off t k) now told = event-few (off t k) now told
   call-few (reserve t k n b) now told = event-few (reserve t k n b) now told
   call-few (until t) now told = event-few (until t) now told
-  call-few (step t) now told = step-few (step t) now t told
+  call-few (step t) now told = step-few t now told
 
   -- where the answers tell so much
   pub few-writes : ((call : Call) → Tells p call (performBy P call s .answer) (timeAt (performBy P call s .cells) clock-cell)) → FewWrites P p s
@@ -119,5 +122,5 @@ module _ (P : List ℕ) (R : Ready P) (s : List ℕ) where
         counted = λ call. call-counted P call s .few;
       }
     where
-      each : (call : Call) → Few (callWrites P call s) (timeAt (performBy P call s .cells) clock-cell)
+      each : (call : Call) → Few call (callWrites P call s) (timeAt (performBy P call s .cells) clock-cell)
       each call = call-few call (timeAt (performBy P call s .cells) clock-cell) (told call)

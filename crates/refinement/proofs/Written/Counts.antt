@@ -12,7 +12,7 @@ use borrow.Author.Tests.{le-ltb}
 use Rattle.rules.specs.Choice.{if_then_else_}
 use Rattle.rules.specs.Plan.{Plan, most-levels, most-hubs, levels}
 use Rattle.rules.specs.Drawn.{Drawn, Within}
-use Rattle.rules.proofs.Laws.Passes.{Which, which, yes′, no′}
+use Rattle.rules.proofs.Laws.Passes.{Which, which, yes′, no′, true-false}
 use Rattle.rules.proofs.Control.Cover.{hangs}
 use Rattle.rules.proofs.Control.Levels.{level-up}
 use Rattle.rules.proofs.Control.Nearest.{level-low}
@@ -26,7 +26,7 @@ use Rattle.cells.specs.Masks.{standsIn, countsBy, maskWith, alike, mendClass, s
 use Rattle.cells.specs.Build.{hubsIn}
 use Rattle.cells.specs.Written.{mendWrites, mendBitWrites, mendClassWrites, putRequestWrites, grantNodeWrites, clearWrites, showPortWrites, showNodesWrites, showHubWrites, showHubsWrites, buildWrites}
 use Rattle.refinement.specs.Kept.{Ready}
-use Rattle.refinement.specs.Written.{mostInFrame, mostAtStart}
+use Rattle.refinement.specs.Written.{mostAtStart}
 
 -- a hub's mask is one cell
 port-few : (g : ℕ) → showPortWrites g ≤ 1
@@ -36,6 +36,15 @@ port-few g = go (which (ltb g 1)) (which (ltb 32 g))
     go (yes′ e) t = rw e (omega arith)
     go (no′ e) (yes′ h) = rw (e, h) (omega arith)
     go (no′ e) (no′ h) = rw (e, h) (omega arith)
+
+-- a request's cell stands in one class at most
+one-class : (x : ℕ) → standsIn true x ≡ true → standsIn false x ≡ false
+one-class x e = go (which (ltb x 65536)) (which (ltb x 131072))
+  where
+    go : Which (ltb x 65536) → Which (ltb x 131072) → standsIn false x ≡ false
+    go (yes′ l) t = rw l
+    go (no′ l) (yes′ h) = absurd (true-false e (rw (l, h)))
+    go (no′ l) (no′ h) = rw (l, h)
 
 module _ (P : List ℕ) (R : Ready P) where
   abbrev p : Plan
@@ -104,7 +113,8 @@ module _ (P : List ℕ) (R : Ready P) where
             ))
         go (no′ e) = rw e (omega arith)
 
-    pub request-few : (x : ℕ) (s : List ℕ) → putRequestWrites P k x s ≤ mostInFrame p
+    -- of any request that comes
+    pub request-few : (x : ℕ) (s : List ℕ) → putRequestWrites P k x s ≤ 2 * levels p
     unfolding putRequestWrites
     request-few x s =
         let old = getD s (requestCell k) 0 in
@@ -112,11 +122,32 @@ module _ (P : List ℕ) (R : Ready P) where
         rw (le-ltb k 1 (w .low), le-ltb 256 k (omega (arith, w .up, D .few-nodes)))
         (omega (arith, class-few true old x (mendClass P false k old x left), class-few false old x left))
 
-    pub grant-few : (isHigh : Bool) (s : List ℕ) → grantNodeWrites P isHigh k s ≤ mostInFrame p
+    -- nothing is mended in a class that the removed request didn't stand in
+    other-class : (isHigh : Bool) (old : ℕ) (s : List ℕ) → standsIn isHigh old ≡ false → mendClassWrites P isHigh k old 0 s ≡ 0
+    unfolding mendClassWrites
+    other-class true old s e = rw e
+    other-class false old s e = rw e
+
+    pub removal-few : (s : List ℕ) → putRequestWrites P k 0 s ≤ levels p
+    unfolding putRequestWrites
+    removal-few s =
+        rw (le-ltb k 1 (w .low), le-ltb 256 k (omega (arith, w .up, D .few-nodes))) (go (which (standsIn true old)))
+      where
+        old : ℕ
+        old = getD s (requestCell k) 0
+
+        left : List ℕ
+        left = set (set s standing-cell (standingAfter (getD s standing-cell 0) old 0)) (requestCell k) 0
+
+        go : Which (standsIn true old) → mendClassWrites P true k old 0 (mendClass P false k old 0 left) + mendClassWrites P false k old 0 left ≤ levels p
+        go (yes′ e) = omega (arith, class-few true old 0 (mendClass P false k old 0 left), other-class false old left (one-class old e))
+        go (no′ e) = omega (arith, other-class true old (mendClass P false k old 0 left) e, class-few false old 0 left)
+
+    pub grant-few : (isHigh : Bool) (s : List ℕ) → grantNodeWrites P isHigh k s ≤ levels p
     unfolding grantNodeWrites
     grant-few isHigh s =
         rw (le-ltb k 1 (w .low), le-ltb 256 k (omega (arith, w .up, D .few-nodes)))
-        (request-few 0 (set s (grantedCell k) (grantedMore isHigh (getD s (grantedCell k) 0))))
+        (removal-few (set s (grantedCell k) (grantedMore isHigh (getD s (grantedCell k) 0))))
 
   -- a frame's start
   clear-is : (n : ℕ) → clearWrites n ≡ 2 * n
