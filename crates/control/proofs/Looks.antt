@@ -1,14 +1,13 @@
 -- One look at a hub, by what is found there: a law for each case of the definitions of `cells`.
 use Prim.Native.Nat.{ℕ, _+_, _-_, _/_, _<_, _≤_}
 use mathlib.Core.Path.{_≡_, refl, sym, ap, subst}
-use mathlib.Core.Bool.{Bool, true, false}
+use mathlib.Core.Bool.{Bool}
 use mathlib.Core.List.{List}
 use native.Mathlib.Omega.{arith}
 use borrow.Author.Tests.{lt-ltb, le-ltb, le-leb, lt-leb, eq-eqb, ne-eqb}
-use mir.Val.{boolByte}
 use lib.ListN.{getD, set}
 use Rattle.rules.specs.Plan.{most-hubs, most-ports}
-use Rattle.ports.specs.Mask.{shows, digit}
+use Rattle.ports.specs.Mask.{shows}
 use Rattle.ports.specs.Ports.{atOrAfter}
 use Rattle.ports.specs.Search.{lowestFrom}
 use Rattle.ports.specs.declared.Found.{Found}
@@ -19,15 +18,6 @@ use Rattle.cells.specs.declared.Look.{Look}
 use Rattle.cells.specs.declared.Look.the-variants.{Node, Pass, Round, Stop}
 use Rattle.cells.specs.Layout.{maskCell, pointerCell, unmarkedCode, markedCode}
 use Rattle.cells.specs.Turns.{Looked, downBy, takeBy, upBy, handUpBy, foundBy, lookBy}
-
--- the code's number of a class is that of the definitions
-pub byte-digit : (high : Bool) → boolByte high ≡ digit high
-byte-digit true = refl
-byte-digit false = refl
-
-pub byte-below-2 : (high : Bool) → boolByte high < 2
-byte-below-2 true = omega arith
-byte-below-2 false = omega arith
 
 -- what is found is a port
 pub found-port : (f : ℕ → Bool) (pointer q : ℕ) → lowestFrom f pointer ≡ found.Port q → (1 ≤ q) × (q ≤ most-ports)

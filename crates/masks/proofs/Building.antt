@@ -5,13 +5,13 @@ use mathlib.Core.Bool.{Bool, true, false}
 use mathlib.Core.List.{List}
 use mir.Val.{boolByte}
 use native.Mathlib.Numerals.{unary-clauses}
-use native.Mathlib.Omega.{arith}
 use lib.Dec.{leb}
 use lib.ListN.{getD, set}
 use borrow.Author.Tests.{lt-ltb, le-ltb}
 use Rattle.rules.specs.Plan.{most-hubs}
 use Rattle.ports.specs.Ports.{withPort}
-use Rattle.ports.specs.Mask.{shows, maskOf, digit}
+use Rattle.ports.specs.Mask.{shows, maskOf}
+use Rattle.ports.proofs.Digits.{byte-digit}
 use Rattle.plan_tree.specs.Tables as plan
 use Rattle.cells.specs.Layout.{hubCell, maskCell, requestCell}
 use Rattle.cells.specs.Decode.{planIn}
@@ -27,15 +27,6 @@ cleared-some zero s h = absurd (h refl)
 cleared-some (suc n) s h = simp unary-clauses
 
 -- ---- one port
-
--- the code's number of a class is that of the definitions
-pub byte-digit : (high : Bool) → boolByte high ≡ digit high
-byte-digit true = refl
-byte-digit false = refl
-
-pub byte-below-2 : (high : Bool) → boolByte high < 2
-byte-below-2 true = omega arith
-byte-below-2 false = omega arith
 
 module _ (high : Bool) (g q : ℕ) (b : Bool) (s : List ℕ) where
   pub no-hub : g < 1 → s ≡ showPort high g q b s

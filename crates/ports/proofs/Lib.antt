@@ -1,4 +1,4 @@
--- The laws that the proofs of `ports` share. Callers' proofs cite `Laws`, `Summaries`, `Answers` and `Coding`.
+-- The laws that the proofs of `ports` share. Callers' proofs cite `Laws`, `Summaries`, `Answers`, `Coding` and `Digits`.
 pub mod Bits
 pub mod Coding
 pub mod Pointing
@@ -7,3 +7,4 @@ pub mod Answers
 pub mod Laws
 pub mod Searching
 pub mod Summaries
+pub mod Digits

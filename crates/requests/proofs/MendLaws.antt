@@ -5,26 +5,16 @@ use mathlib.Core.List.{List}
 use Prim.Native.Nat.{ℕ, zero, suc, _-_, _≤_, _<_}
 use native.Mathlib.Omega.{arith}
 use borrow.Author.Tests.{lt-ltb, le-ltb}
-use mir.Val.{boolByte}
 use lib.ListN.{getD, set}
 use lib.Dec.{eqb}
 use Rattle.ports.specs.Ports.{ports, putPort, anyPort}
-use Rattle.ports.specs.Mask.{shows, digit}
+use Rattle.ports.specs.Mask.{shows}
 use Rattle.ports.proofs.Summaries.{Sums, any-sums, sums-any, any-mask}
 use Rattle.rules.specs.Plan.{most-hubs}
 use Rattle.rules.proofs.Laws.Passes.{Which, which, yes′, no′}
 use Rattle.plan_tree.specs.Tables as plan
 use Rattle.cells.specs.Layout.{maskCell}
 use Rattle.cells.specs.Masks.{alike, mend, maskWith}
-
--- the code's number of a class is that of the definitions
-pub byte-digit : (high : Bool) → boolByte high ≡ digit high
-byte-digit true = refl
-byte-digit false = refl
-
-pub byte-below-2 : (high : Bool) → boolByte high < 2
-byte-below-2 true = omega arith
-byte-below-2 false = omega arith
 
 -- a port put hides none, and one taken off shows none
 put-hides-none : (f : ℕ → Bool) (q r : ℕ) → putPort f q true r ≡ false → f r ≡ false

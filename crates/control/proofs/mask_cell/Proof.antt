@@ -2,7 +2,7 @@
 use mathlib.Core.Path.{ap}
 use native.Mathlib.Omega.{arith}
 use Rattle.cells.specs.Layout.{hubCell}
-use Rattle.control.proofs.Looks.{byte-digit, byte-below-2}
+use Rattle.ports.proofs.Digits.{byte-digit, byte-below-2}
 use borrow.Author.Needs.{needs}
 use Rattle.control.proofs.mask_cell.Statement.{statement}
 use Rattle.control.proofs.mask_cell.Tie as tie

@@ -3,7 +3,7 @@ use mathlib.Core.Path.{sym, ap, _∙_}
 use Prim.Native.Nat.{ℕ}
 use lib.ListN.{set}
 use Rattle.cells.specs.Layout.{holder-cell, class-cell}
-use Rattle.control.proofs.Looks.{byte-digit}
+use Rattle.ports.proofs.Digits.{byte-digit}
 use Rattle.control.proofs.Walks.{nobody-granted, class-settled}
 use borrow.Author.Needs.{needs}
 use Rattle.control.proofs.settle.Statement.{statement}

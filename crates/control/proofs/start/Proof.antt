@@ -5,7 +5,7 @@ use native.Mathlib.Omega.{arith}
 use Rattle.rules.specs.Control.{most-looks}
 use Rattle.cells.specs.Turns.{walkBy}
 use Rattle.cells.specs.declared.Turn.{Turn}
-use Rattle.control.proofs.Looks.{byte-digit}
+use Rattle.ports.proofs.Digits.{byte-digit}
 use Rattle.control.proofs.Walks.{class-kept, class-changed}
 use borrow.Author.Needs.{needs}
 use Rattle.control.proofs.start.Statement.{statement}

@@ -1,7 +1,8 @@
 -- `masks::show_port` meets its contract: each way through the tests is a law of Building.
 use native.Mathlib.Omega.{arith}
 use borrow.Author.Needs.{needs}
-use Rattle.masks.proofs.Building.{byte-below-2, no-hub, past-hubs, port-shown}
+use Rattle.ports.proofs.Digits.{byte-below-2}
+use Rattle.masks.proofs.Building.{no-hub, past-hubs, port-shown}
 use Rattle.masks.proofs.show_port.Statement.{statement}
 use Rattle.masks.proofs.show_port.Tie as tie
 

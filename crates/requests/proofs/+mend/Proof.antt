@@ -5,7 +5,8 @@ use native.Mathlib.Omega.{arith}
 use mir.Val.{boolByte}
 use borrow.Author.Needs.{needs}
 use Rattle.cells.specs.Layout.{hubCell}
-use Rattle.requests.proofs.MendLaws.{byte-digit, byte-below-2, none-left, no-hub, past-hubs, ends-here, goes-on}
+use Rattle.ports.proofs.Digits.{byte-digit, byte-below-2}
+use Rattle.requests.proofs.MendLaws.{none-left, no-hub, past-hubs, ends-here, goes-on}
 use borrow.Fn.Kinds.{In}
 use borrow.Fn.PlainCycle.{Measures, is, falls, and}
 use Rattle.requests.proofs.mend.Reads as mend
