@@ -41,7 +41,7 @@ unfoldable pub nearestByLooks : List ℕ → ℕ → ℕ → ℕ
 nearestByLooks P zero g = 0
 nearestByLooks P (suc levels) g = ifHub g (if eqb g 1 then 1 else nearestByLooks P levels (getD P (plan.parentCell g) 0) + 1) 0
 
--- beside `walked`
+-- beside `walked`, which names `turningBy` twice: it is found once
 unfoldable pub walkedLooks : List ℕ → Bool → List ℕ → ℕ
 walkedLooks P isHigh s =
     if eqb (getD s class-cell 0) (digit isHigh) then walkByLooks P isHigh most-looks (getD s holder-cell 0) s

@@ -46,5 +46,5 @@ pub record FewWrites (P : List ℕ) (p : Plan) (s : List ℕ) : Type 0 where
   pub within : (call : Call) → frameIn p (performBy P call s .cells) ≡ frameIn p s → callWrites P call s ≤ mostBy p call
   -- and where one starts
   pub over-start : (call : Call) → callWrites P call s ≤ mostBy p call + mostAtStart p
-  -- no mask changes that isn't counted
+  -- no more masks change than are counted; where a frame starts this says little, since clearing alone counts two a hub
   pub counted : (call : Call) → changedMasks s (performBy P call s .cells) ≤ callWrites P call s
