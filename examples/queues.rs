@@ -4,9 +4,12 @@ use lembuya::{Cascade, Class, Plan, Refused, Step};
 use std::cmp::Reverse;
 use std::collections::{BinaryHeap, VecDeque};
 
-/// A packet's wait: its class, when its request was first put up (it stood at the head of its node's queue), and its grant.
+/// A packet's wait: its node, its class, when its request was first put up (it stood at the head of its node's queue), and its grant.
 #[derive(Clone, Copy, Debug)]
 pub struct Wait {
+    // Not every example looks at it.
+    #[allow(dead_code)]
+    pub node: u64,
     pub class: Class,
     pub head: u64,
     pub granted: u64,
@@ -121,6 +124,7 @@ impl Hall {
         let head = head.take().expect("it was asked for");
         (at.stands, at.sending) = (None, true);
         self.waits.push(Wait {
+            node,
             class,
             head,
             granted: time,

@@ -21,19 +21,20 @@ extern "C" {
 #define LEMBUYA_PLAN_CELLS 1672
 #define LEMBUYA_CASCADE_CELLS 1160
 
-/* Numbers: 0 is done or taken; the others are those of document 01, "Where each no is said". A refusal leaves all that is lent as it was,
- * but for a refused plan's line. */
+/* Numbers: 0 is done or taken; the others are those of document 01, "Where each no is said", and of document 02's requests that have
+ * landed. A refusal leaves all that is lent as it was, but for a refused plan's line. */
 enum {
     LEMBUYA_OK = 0,
     /* a line is not the form allowed here, its LF is missing, or the text ends early; a call of no kind in a list */
     LEMBUYA_FORM = 1,
-    LEMBUYA_FIGURE = 2,     /* T, O or D is out of range */
+    LEMBUYA_FIGURE = 2,     /* T, O or D is out of range; on the framing's line: D is too small for framing 5 */
     LEMBUYA_LIMIT = 3,      /* a limit of the tree is passed, a hub has no port, or the plan has no node */
+    LEMBUYA_FRAMING = 4,    /* the framing is neither 3 nor 5 */
     LEMBUYA_TIME = 11,      /* t is above 10^15, or before the clock */
     LEMBUYA_DUE = 12,       /* an instant strictly before t is due: step first */
     LEMBUYA_NODE = 13,      /* k is 0 or above N */
     LEMBUYA_PACKETS = 14,   /* n is above 64 */
-    LEMBUYA_LENGTH = 15,    /* b is not 512 to 12,000; in a reserve with n = 0: b is not 0 */
+    LEMBUYA_LENGTH = 15,    /* b is not 512 to the plan's longest packet; in a reserve with n = 0: b is not 0 */
     LEMBUYA_UNRESERVED = 16,/* high: n in force at t is 0, or b is above the b in force */
     LEMBUYA_FULL = 17,      /* reserve: the frame can't hold it */
     LEMBUYA_SHORT = 18      /* a lent buffer or table is too short: nothing is written there */
@@ -56,8 +57,14 @@ enum {
 };
 
 /* Reads the plan at the start of a text. Taken: 0, the plan's tables stand in `plan`, and `told` is nodes, hubs, the place where the
- * events start (byte) and its line number. Refused: its number, told[3] is the line, and the rest of `told` and `plan` are as they were. */
+ * events start (byte) and its line number. Refused: its number, told[3] is the line, and the rest of `told` and `plan` are as they were.
+ * Behind (interrupt D) the text may have one line more, (framing 3) or (framing 5), on which 1 comes before 4 and 4 before 2; without it 3
+ * is meant. */
 uint32_t lembuya_read(const uint8_t *text, size_t length, uint32_t plan[LEMBUYA_PLAN_CELLS], uint64_t told[4]);
+
+/* The longest packet of the plan in bits: 36,000 where its text says (framing 5), else 12,000. It is answered for every content of the
+ * table, and nothing is refused. */
+uint64_t lembuya_longest(const uint32_t plan[LEMBUYA_PLAN_CELLS]);
 
 /* The cascade's table before any event. It serves any plan. */
 void lembuya_fresh(uint32_t cascade[LEMBUYA_CASCADE_CELLS]);

@@ -5,9 +5,9 @@
     python3 tools/log_texts.py --list       prints each text's name, its sizes, where its log is from and what it is for
 
 `stdin` holds the texts with a byte 0 between one and the next; `stdout` holds their logs, each followed by a line `--`.
-The texts stand in tools/texts, by subject. The logs are those of the model. It must give each vector's own file, that of after-4 where
-request 4 of document 02 changed it; each log that is `worked`, by hand from document 01 and that request, and stated with its text; and of
-each plan text the first line that is stated there. Where it doesn't, nothing is written and the script fails.
+The texts stand in tools/texts, by subject. The logs are those of the model. It must give each vector's own file, where
+several requests have one that of the last to land; each log that is `worked`, by hand from document 01 and the requests that landed, and
+stated with its text; and of each plan text the first line that is stated there. Where it doesn't, nothing is written and the script fails.
 """
 import collections
 import pathlib
@@ -16,9 +16,12 @@ import sys
 from model.figures import MOST_TEXT_BYTES
 from model.log import log
 from texts import (
-    control, depths, forms, held, largest, moves, order, plans, random_texts, ranges, requests, reservations, rows, suite, trials, vectors)
+    control, depths, forms, framing, held, largest, moves, order, plans, random_texts, ranges, requests, reservations, rows, suite, trials,
+    vectors)
 
-SUBJECTS = (plans, vectors, trials, forms, rows, reservations, order, held, ranges, requests, control, moves, depths, largest, random_texts)
+SUBJECTS = (
+    plans, vectors, trials, forms, rows, reservations, order, held, ranges, requests, control, moves, depths, framing, largest,
+    random_texts)
 CASES = [case for subject in SUBJECTS for case in subject.cases]
 ORIGINS = ('plan', 'vector', 'worked', 'reference')
 MOST_INPUT_BYTES = 1048576  # of the program, all texts together
@@ -56,7 +59,7 @@ def hold_to_the_suite(stdin):
     if len({case.name for case in CASES}) != len(CASES) or len(texts_too_long()) > 4:
         sys.exit('log_texts: a name twice, or many texts that are cut')
     if not vectors.cases:
-        sys.exit(f'log_texts: there are no vectors in {vectors.BEFORE}')
+        sys.exit(f'log_texts: there are no vectors in {vectors.VECTORS}')
 
 
 def write(folder):

@@ -3,7 +3,8 @@
 
     python3 tools/random_plans.py [SEED [BATCHES]]        default 1 20; the program must have been built
 
-The texts are plans at and past every limit, many of them damaged: bytes changed, cut out or put in, lines cut and swapped. A batch is some
+The texts are plans at and past every limit, many of them damaged: bytes changed, cut out or put in, lines cut and swapped. Some have a
+framing line, in its place or elsewhere, or what is none; the events behind have lengths at the ends of both framings. A batch is some
 480,000 bytes of texts, separated by byte 0. It is no part of the gate.
 """
 import collections
@@ -11,10 +12,17 @@ import random
 import subprocess
 import sys
 
+from model.figures import FRAME_RANGE, LONGEST_PACKETS, SHORTEST_PACKET
 from model.log import log
 from texts.suite import PROGRAM
 
 FIGURES = (b'frame', b'overhead', b'interrupt')
+FRAMINGS = [b'(framing 3)', b'(framing 5)', b'(framing 5)']
+OTHER_FRAMINGS = [
+    b'(framing 4)', b'(framing 0)', b'(framing 35)', b'(framing 261)', b'(framing 4294967301)', b'(framing 9999999999999999)',
+    b'(framing 10000000000000005)', b'(framing 18446744073709551621)', b'(framing)', b'(framing )', b'(framing 03)', b'(framing 05)',
+    b'(framing 04)', b'(framing 3 5)', b'(framing  5)', b'(framing5)', b'(framing 5', b'(frame 5)', b'(strict)']
+LENGTHS = [SHORTEST_PACKET - 1, SHORTEST_PACKET, *(b for longest in LONGEST_PACKETS.values() for b in (longest, longest, longest + 1))]
 BATCH_BYTES = 480000
 MOST_INPUT_BYTES = 524288
 
@@ -34,11 +42,35 @@ def random_hub(rng, level):
 
 
 def random_figures(rng):
-    frame = rng.choice([100000, 100000, 99999, 4000000, 4000001, rng.randint(90000, 4100000)])
-    overhead = rng.choice([0, 1000, 1000, 50000, 50001, rng.randint(0, 51000)])
-    least = 12000 + overhead
+    """Mostly T and O within their ranges, so that the lines behind are read; D at both of its least values."""
+    frame = rng.choice([100000, 100000, 4000000, rng.randint(90000, 4100000)] if rng.random() < .9 else [99999, 4000001])
+    overhead = rng.choice([0, 1000, 1000, 50000, rng.randint(0, 51000)] if rng.random() < .95 else [50001])
+    least = rng.choice(list(LONGEST_PACKETS.values())) + overhead
     interrupt = rng.choice([least, least, least - 1, frame, frame + 1, rng.randint(10000, frame)])
     return [b'(%s %d)' % pair for pair in zip(FIGURES, (frame, overhead, interrupt))]
+
+
+def put_framing(rng, lines):
+    """A framing line or what is none, mostly as the fourth line; elsewhere it stands near there, behind the root's `(hub` too."""
+    at = 3 if rng.random() < .9 else rng.randint(0, min(6, len(lines)))
+    lines.insert(at, rng.choice(FRAMINGS if rng.random() < .75 else OTHER_FRAMINGS))
+
+
+def random_events(rng):
+    """Requests and reservations of node 1, of which the plan's framing takes some."""
+    late = FRAME_RANGE[1]  # in no plan's frame 0
+    events = [b'(until 5)', b'(normal 5 1 %d)', b'(reserve 6 1 1 %d)', b'(reserve 7 1 2 %d)', b'(high %d 1 %%d)' % late,
+              b'(until %d)' % (2 * late)]
+    chosen = [event for event in events if rng.random() < .6]
+    return [event % rng.choice(LENGTHS) if b'%d' in event else event for event in chosen]
+
+
+def cut(rng, text):
+    """Its last LF, that of its framing line with all behind it, or anything."""
+    places = [len(text) - 1, rng.randint(0, len(text))]
+    if b'(framing' in text:
+        places.append(text.index(b'\n', text.index(b'(framing')))
+    return text[:rng.choice(places)]
 
 
 def damaged(rng, text):
@@ -55,13 +87,15 @@ def damaged(rng, text):
 
 
 def random_text(rng):
-    lines = random_figures(rng) + random_hub(rng, 1) + [b'(until 5)'] * rng.choice([0, 0, 0, 1, 3])
+    lines = random_figures(rng) + random_hub(rng, 1) + (random_events(rng) if rng.random() < .6 else [])
+    for _ in range(rng.choice([0, 0, 1, 1, 1, 2] if rng.random() < .5 else [0, 1])):
+        put_framing(rng, lines)
     if rng.random() < .1:
         a, b = rng.randrange(len(lines)), rng.randrange(len(lines))
         lines[a], lines[b] = lines[b], lines[a]
     text = b''.join(line + b'\n' for line in lines)
-    if rng.random() < .3:
-        text = text[:rng.choice([len(text) - 1, rng.randint(0, len(text))])]
+    if rng.random() < .2:
+        text = cut(rng, text)
     return damaged(rng, text) if rng.random() < .4 else text
 
 
@@ -83,9 +117,13 @@ def logs_of(texts):
     return logs
 
 
-def kind_of(log):
+def kind_of(text, log):
+    """Of a refused plan its row; of a taken one its fourth line, which is the framing's or already the root's."""
     first = log.split(b'\n')[0]
-    return 'taken' if first.startswith(b'(nodes') else f'refused by {first[-2:-1].decode()}'
+    if not first.startswith(b'(nodes'):
+        return f'refused by {first[-2:-1].decode()}'
+    fourth = text.split(b'\n')[3].decode()
+    return 'taken without a framing line' if fourth == '(hub' else f'taken with {fourth}'
 
 
 def main():
@@ -98,7 +136,7 @@ def main():
         for text, written in zip(texts, logs_of(texts)):
             if written != log(text):
                 sys.exit(f'random_plans: {written!r} for a text whose log is {log(text)!r} (seed {seed}):\n{text!r}')
-            kinds[kind_of(written)] += 1
+            kinds[kind_of(text, written)] += 1
     print(f'{sum(kinds.values())} texts agree;', dict(kinds.most_common()))
 
 

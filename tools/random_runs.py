@@ -3,12 +3,12 @@
 
     python3 tools/random_runs.py [SEED [RUNS [CALLS]]]        default 1 100 80
 
-Each run is a random plan and a random list of calls, refused ones among them. Its answers by the model are written as a theorem about the
-definitions (`answers p (control p) calls` is this list), which the checker computes; and so are those by the rule 2 that document 01 had
-before (`fromRoot`), and the returns of the root's pointer in each call (`callReturns`). Request 13's bound is held against the model's own
-moves and returns. For some high requests of each list request 5's premises, the grant and the limit are looked up in the list by the
-model, and by the definitions there (`figures` of `AnyMomentRuns`); where all premises hold, the grant is held against the limit. It
-works in a temporary folder; it is no part of the gate.
+Each run is a random plan of either framing and a random list of calls, refused ones among them. Its answers by the model are written as a
+theorem about the definitions (`answers p (control p) calls` is this list), which the checker computes; and so are those by the rule 2 that
+document 01 had before (`fromRoot`), and the returns of the root's pointer in each call (`callReturns`). Request 13's bound is held against
+the model's own moves and returns. For some high requests of each list request 5's premises, the grant and the limit are looked up in the
+list by the model, and by the definitions there (`figures` of `AnyMomentRuns`); where all premises hold, the grant is held against the
+limit. It works in a temporary folder; it is no part of the gate.
 """
 import collections
 import pathlib
@@ -20,7 +20,7 @@ import tempfile
 
 from model.any_moment import Wait
 from model.calls import HIGH, Grant, Refused, call, class_name
-from model.figures import LATEST_TIME, MOST_LEVELS, MOST_PACKETS
+from model.figures import LATEST_TIME, LONGEST_PACKETS, MOST_LEVELS, MOST_PACKETS
 from model.hub import Hub, run
 from model.plan import plan_of
 from model.travel import farthest
@@ -46,19 +46,28 @@ def random_hub(rng, level):
 
 
 def random_plan(rng):
-    """At most 12 nodes and 10 hubs, so that the checker computes its lists in a short time."""
+    """At most 12 nodes and 10 hubs, so that the checker computes its lists in a short time. Framing 3 is meant or written out."""
     while True:
         tree = random_hub(rng, 1)
         frame, overhead = rng.choice([100000, 100000, 120000]), rng.choice([0, 1000, 7000])
-        interrupt = 12000 + overhead + rng.choice([0, 1000, 20000])
+        framing = rng.choice([*LONGEST_PACKETS])
+        line = [f'(framing {framing})'] if framing == 5 or rng.random() < .5 else []
+        interrupt = LONGEST_PACKETS[framing] + overhead + rng.choice([0, 1000, 20000])
         if 1 <= tree.count('(node)') <= 12 and tree.count('(hub') <= 10:
-            return plan_of([f'(frame {frame})', f'(overhead {overhead})', f'(interrupt {interrupt})', *tree])
+            return plan_of([f'(frame {frame})', f'(overhead {overhead})', f'(interrupt {interrupt})', *line, *tree])
 
 
 # Random calls
 
 RESERVES = [(0, 0), (1, 4000), (1, 12000), (2, 512), (2, 4000), (3, 512), (5, 512), (MOST_PACKETS + 1, 512), (0, 512), (1, 0), (29, 2000),
-            (40, 1000)]
+            (40, 1000), (1, 12001), (1, 36000), (1, 36001)]
+
+
+def random_length(rng, plan):
+    """Mostly one of the plan's; else at the ends of either framing, which its own takes or not."""
+    if rng.random() < .94:
+        return rng.choice([512, 512, 600, 4000, 12000, plan.longest_packet])
+    return rng.choice([plan.shortest_packet - 1, *(longest + more for longest in LONGEST_PACKETS.values() for more in (0, 1))])
 
 
 def random_call(rng, hub):
@@ -70,7 +79,7 @@ def random_call(rng, hub):
         near += [due, due, due + 1, max(0, due - 1)]
     t = rng.choice(near) if rng.random() < .98 else rng.choice([LATEST_TIME + 1, max(0, core.clock - 1)])
     k = rng.randint(1, plan.nodes) if rng.random() < .97 else rng.choice([0, plan.nodes + 1])
-    b = rng.choice([512, 512, 600, 4000, 12000]) if rng.random() < .96 else rng.choice([plan.shortest_packet - 1, plan.longest_packet + 1])
+    b = random_length(rng, plan)
     x = rng.random()
     if x < .42 or (due is not None and rng.random() < .35):
         return call('step', max(t, (due or 0) + 1) if rng.random() < .9 else t)
@@ -97,12 +106,14 @@ def loaded_call(rng, hub):
         return replacing_call(rng, hub, rng.choice(waiting))
     if rng.random() < .4:
         return call('step', (hub.core.due() or hub.core.clock) + 1)
-    return call(rng.choice(['normal', 'normal', 'high']), hub.core.clock, rng.randint(1, hub.plan.nodes), 512)
+    word = rng.choice(['normal', 'normal', 'high'])
+    b = rng.choice([512, 512, hub.plan.longest_packet]) if word == 'normal' else 512
+    return call(word, hub.core.clock, rng.randint(1, hub.plan.nodes), b)
 
 
 def first_calls(rng, plan):
     """In half of the lists most nodes reserve at first."""
-    shares = [(1, 512), (2, 512), (1, 4000)]
+    shares = [(1, 512), (2, 512), (1, 4000), (1, plan.longest_packet)]
     reserves = [call('reserve', 0, k, *rng.choice(shares)) for k in range(1, plan.nodes + 1) if rng.random() < .8]
     return [*reserves, call('until', plan.frame)] if rng.random() < .5 else []
 

@@ -40,8 +40,26 @@ static void plans(void)
     expected.told[3] = 1;
     IS(LEMBUYA_FORM, plan_of(""));
     IS(LEMBUYA_FIGURE, plan_of("(frame 1)\n"));
+    expected.told[3] = 4;
+    IS(LEMBUYA_FORM, plan_of(FIGURES "(framing 03)\n"));
+    IS(LEMBUYA_FRAMING, plan_of(FIGURES "(framing 4)\n"));
+    IS(LEMBUYA_FIGURE, plan_of(FIGURES "(framing 5)\n"));
     expected.told[3] = 5;
     IS(LEMBUYA_LIMIT, plan_of(FIGURES "(hub\n)\n"));
+    expected.told[3] = 6;
+    IS(LEMBUYA_LIMIT, plan_of(FIGURES "(framing 3)\n(hub\n)\n"));
+}
+
+/* It refuses no table, and leaves what is lent too. */
+static void longest(void)
+{
+    static const char ring[] = "(frame 100000)\n(overhead 1000)\n(interrupt 37000)\n(framing 5)\n(hub\n(node)\n)\n";
+    static uint32_t table[LEMBUYA_PLAN_CELLS];
+    uint64_t told[4];
+    IS(12000, lembuya_longest(lent.plan));
+    IS(12000, lembuya_longest(table));
+    IS(LEMBUYA_OK, lembuya_read((const uint8_t *)ring, sizeof ring - 1, table, told));
+    IS(36000, lembuya_longest(table));
 }
 
 /* From clock 10, where node 1's request is due. */
@@ -87,6 +105,7 @@ int main(void)
         return 1;
     memcpy(&expected, &lent, sizeof lent);
     plans();
+    longest();
     events();
     steps();
     lists_and_runs();

@@ -70,7 +70,8 @@ def as_plan(plan):
         return 'empty' if kind == 'empty' else f'{kind} {number}'
     ports = as_list(['[]', *(as_list(['empty', *(port(*each) for each in plan.ports[hub])]) for hub in hubs)])
     return f'''record {{
-      frame = {plan.frame}; overhead = {plan.overhead}; interrupt = {plan.interrupt}; nodes = {plan.nodes}; hubs = {plan.hubs};
+      frame = {plan.frame}; overhead = {plan.overhead}; interrupt = {plan.interrupt}; framing = {plan.framing};
+      nodes = {plan.nodes}; hubs = {plan.hubs};
       ports = λ g. getD {table(lambda hub: len(plan.ports[hub]))} g 0;
       port = λ g q. getD (getD {ports} g []) q empty;
       parent = λ g. getD {table(parent)} g 0;

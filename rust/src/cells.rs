@@ -12,6 +12,8 @@ pub mod plan {
     pub const OVERHEAD: usize = 1;
     /// D.
     pub const INTERRUPT: usize = 2;
+    /// The framing, by its number.
+    pub const FRAMING: usize = 5;
 
     /// Where the hubs' cells start, and how many each has.
     pub const HUBS: usize = 8;

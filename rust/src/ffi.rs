@@ -3,7 +3,7 @@
 //! A caller owes two things: each pointer names as many elements as its type or its length says, and
 //! what a call writes overlaps no other argument of it. The content of the tables is free: every
 //! function answers and comes back. A number is 0, or that of a row in document 01, "Where each no
-//! is said".
+//! is said", or in a request of document 02 that has landed.
 
 /// How many 32-bit cells a plan's table has.
 pub const PLAN_CELLS: usize = 1672;
@@ -20,6 +20,8 @@ extern "C" {
     /// nodes, hubs, the byte where the events start and its line number. Refused: the number, the
     /// last of `told` is the line, and its other numbers and `plan` are as they were.
     pub fn lembuya_read(text: *const u8, length: usize, plan: *mut Plan, told: *mut [u64; 4]) -> u32;
+    /// The longest packet of a plan, in bits: 36,000 where its text says `(framing 5)`, else 12,000.
+    pub fn lembuya_longest(plan: *const Plan) -> u64;
     /// Makes the cascade's table as it is before any event. It serves any plan.
     pub fn lembuya_fresh(cascade: *mut Cascade);
     /// `(normal t k b)`. Refused: the number, and no cell changes.

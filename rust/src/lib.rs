@@ -7,11 +7,13 @@
 //!
 //! The work is done by `liblembuya.a`, which `rt staticlib lembuya` makes from proved code: each
 //! function meets its contract, never faults and always ends. This crate gives it Rust's types and
-//! adds no rule of its own. "Document 01" is the paper that the proofs follow.
+//! adds no rule of its own. "Document 01" is the paper that the proofs follow, "document 02" the one with
+//! requests for changes to it.
 //!
-//! - [`Plan`]: a tree of hubs and its figures, read from a text. [`Hub`], [`Port`] and [`Place`] tell its tree.
+//! - [`Plan`]: a tree of hubs and its figures, read from a text. [`Hub`], [`Port`] and [`Place`] tell its tree,
+//!   [`Framing`] which packets its line carries.
 //! - [`Cascade`]: a plan's hub at work. It takes five events and the step.
-//! - [`Step`], [`Refused`]: what it answers. Their `Display` is the log's form and document 01's words.
+//! - [`Step`], [`Refused`]: what it answers. Their `Display` is the log's form and the documents' words.
 //! - [`Call`], [`Answer`]: the same as values, for a list of calls. A `Call` is read from an event line, and shown as one.
 //! - [`log()`], [`log_into`]: the whole log of a text.
 //! - [`ffi`]: the archive's functions as they are.
@@ -79,6 +81,7 @@ mod cascade;
 mod cells;
 pub mod ffi;
 mod forms;
+mod framing;
 mod log;
 mod plan;
 mod refused;
@@ -88,6 +91,7 @@ mod tree;
 pub use calls::{Answer, Call, Class, Step};
 pub use cascade::{Cascade, StepsBefore};
 pub use forms::ParseCallError;
+pub use framing::Framing;
 pub use log::{log, log_into, LONGEST_LOG, LONGEST_TEXT};
 pub use plan::{Events, Plan};
 pub use refused::{PlanRefused, PlanRow, Refused, RefusedLine, Short};

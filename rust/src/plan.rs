@@ -1,14 +1,14 @@
 //! The plan: a tree of hubs and its figures.
 
 use crate::cells::plan as cells;
-use crate::{ffi, safe, Cascade, PlanRefused};
+use crate::{ffi, safe, Cascade, Framing, PlanRefused};
 use std::fmt;
 use std::sync::Arc;
 
-/// A plan that was taken: three figures and a tree of hubs.
+/// A plan that was taken: three figures, a framing and a tree of hubs.
 ///
-/// It can only be made by [reading](Plan::read) a text, so every one there is keeps document 01's
-/// limits. A clone shares the tables. `Display` is the log's first line, `(nodes N hubs H)`.
+/// It can only be made by [reading](Plan::read) a text, so every one there is keeps the limits of
+/// documents 01 and 02. A clone shares the tables. `Display` is the log's first line, `(nodes N hubs H)`.
 ///
 /// ```
 /// use lembuya::Plan;
@@ -60,7 +60,7 @@ impl Plan {
     ///
     /// # Errors
     ///
-    /// The first line to which a row of document 01's table applies, and the first such row.
+    /// The first line to which a row of a plan's lines applies, and the first such row.
     pub fn read(text: &[u8]) -> Result<Plan, PlanRefused> {
         let mut cells = [0; ffi::PLAN_CELLS];
         match safe::read(text, &mut cells) {
@@ -87,12 +87,17 @@ impl Plan {
     /// ```
     pub const LATEST_TIME: u64 = 1_000_000_000_000_000;
 
-    /// The longest packet that any plan has, in bits. [`Plan::longest_packet`] is one plan's own.
+    /// The longest packet that any plan has, in bits: that of [framing 5](Framing::TokenRing). [`Plan::longest_packet`] is
+    /// one plan's own, which may be shorter.
     ///
     /// ```
-    /// assert_eq!(lembuya::Plan::LONGEST_PACKET, 12_000);
+    /// use lembuya::Plan;
+    ///
+    /// let ring = Plan::read(b"(frame 100000)\n(overhead 1000)\n(interrupt 37000)\n(framing 5)\n(hub\n(node)\n)\n")?;
+    /// assert_eq!(Plan::LONGEST_PACKET, ring.longest_packet());
+    /// # Ok::<(), lembuya::PlanRefused>(())
     /// ```
-    pub const LONGEST_PACKET: u64 = 12_000;
+    pub const LONGEST_PACKET: u64 = 36_000;
 
     /// The largest overhead of a packet that any plan has.
     ///
@@ -146,19 +151,42 @@ impl Plan {
         self.cell(cells::INTERRUPT)
     }
 
-    /// The longest packet of this plan, in bits: a request for a longer one is refused by row 15.
+    /// Which packets its line carries: what its framing line says, or [`Framing::Ethernet`] without one.
+    ///
+    /// ```
+    /// use lembuya::{Framing, Plan};
+    ///
+    /// let plan = Plan::read(b"(frame 100000)\n(overhead 1000)\n(interrupt 13000)\n(hub\n(node)\n)\n")?;
+    /// assert_eq!(plan.framing(), Framing::Ethernet);
+    /// let ring = Plan::read(b"(frame 100000)\n(overhead 1000)\n(interrupt 37000)\n(framing 5)\n(hub\n(node)\n)\n")?;
+    /// assert_eq!(ring.framing(), Framing::TokenRing);
+    /// # Ok::<(), lembuya::PlanRefused>(())
+    /// ```
+    pub fn framing(&self) -> Framing {
+        Framing::numbered(self.cell(cells::FRAMING))
+    }
+
+    /// The longest packet of this plan, in bits, which its [framing](Plan::framing) decides: a request for a longer one is
+    /// refused by row 15. D is never less than it and its overhead.
     ///
     /// ```
     /// use lembuya::{Plan, Refused};
     ///
     /// let plan = Plan::read(b"(frame 100000)\n(overhead 1000)\n(interrupt 13000)\n(hub\n(node)\n)\n")?;
+    /// assert_eq!(plan.longest_packet(), 12_000);
     /// let mut hub = plan.cascade();
-    /// assert_eq!(hub.normal(0, 1, plan.longest_packet()), Ok(()));
-    /// assert_eq!(hub.normal(0, 1, plan.longest_packet() + 1), Err(Refused::Length));
+    /// assert_eq!(hub.normal(0, 1, 12_000), Ok(()));
+    /// assert_eq!(hub.normal(0, 1, 12_001), Err(Refused::Length));
+    ///
+    /// let ring = Plan::read(b"(frame 100000)\n(overhead 1000)\n(interrupt 37000)\n(framing 5)\n(hub\n(node)\n)\n")?;
+    /// assert_eq!(ring.longest_packet(), 36_000);
+    /// let mut hub = ring.cascade();
+    /// assert_eq!(hub.normal(0, 1, 36_000), Ok(()));
+    /// assert_eq!(hub.normal(0, 1, 36_001), Err(Refused::Length));
     /// # Ok::<(), lembuya::PlanRefused>(())
     /// ```
     pub fn longest_packet(&self) -> u64 {
-        Plan::LONGEST_PACKET
+        safe::longest(self.cells())
     }
 
     /// N, the number of nodes, 1 to 256. They are numbered from 1 in line order.
@@ -225,10 +253,24 @@ mod tests {
         );
     }
 
+    /// A line that says what is meant without it only moves the events.
+    #[test]
+    fn framing_3_may_be_left_out() {
+        let said = PLAN.replace("13000)\n", "13000)\n(framing 3)\n");
+        let [said, meant] = [&said, PLAN].map(|text| Plan::read(text.as_bytes()).unwrap());
+        assert_eq!(said.cells(), meant.cells());
+        assert_eq!(said.events(), Events { at: PLAN.len() + 12, line: 13 });
+    }
+
     #[test]
     fn plans_are_equal_where_their_trees_are() {
         let read = |text: &str| Plan::read(text.as_bytes()).unwrap();
         assert_eq!(read(PLAN), read(&format!("{PLAN}{EVENTS}")));
         assert_ne!(read(PLAN), read(&PLAN.replace("1000)", "999)")));
+        // These have the same figures, the same tree and the same place of the events, and differ in the framing alone.
+        let framed =
+            |framing: u64| read(&PLAN.replace("13000)\n", &format!("37000)\n(framing {framing})\n")));
+        assert_eq!(framed(5), framed(5));
+        assert_ne!(framed(3), framed(5));
     }
 }

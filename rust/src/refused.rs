@@ -1,12 +1,12 @@
-//! Every no: the rows of document 01's table "Where each no is said".
+//! Every no: the rows of document 01's table "Where each no is said", and those that document 02's requests add to it.
 
 use std::error::Error;
 use std::fmt;
 
 /// Why an event or a step was refused: a row of document 01's table. Nothing has changed then.
 ///
-/// Where several rows apply, the first decides. `Display` gives the row's condition in document
-/// 01's words, where t is the call's time (or a step's bound), k its node, n its packets and b its bits.
+/// Where several rows apply, the first decides. `Display` gives the row's condition in the documents'
+/// words, where t is the call's time (or a step's bound), k its node, n its packets and b its bits.
 ///
 /// ```
 /// use lembuya::{Plan, Refused};
@@ -32,8 +32,8 @@ pub enum Refused {
     Node = 13,
     /// Row 14, reserve: n above 64.
     Packets = 14,
-    /// Row 15, normal, high and reserve: b outside 512 to 12,000; in a reserve with n = 0 instead:
-    /// b not 0.
+    /// Row 15, normal, high and reserve: b outside 512 to the plan's
+    /// [longest packet](crate::Plan::longest_packet); in a reserve with n = 0 instead: b not 0.
     Length = 15,
     /// Row 16, high: n in force at t is 0, or b above the b in force.
     Unreserved = 16,
@@ -96,7 +96,9 @@ impl fmt::Display for Refused {
             Refused::Due => "an instant strictly before t is due",
             Refused::Node => "k is 0 or above N",
             Refused::Packets => "n above 64",
-            Refused::Length => "b outside 512 to 12,000; in a reserve with n = 0 instead: b not 0",
+            Refused::Length => {
+                "b outside 512 to the plan's longest packet; in a reserve with n = 0 instead: b not 0"
+            }
             Refused::Unreserved => "n in force at t is 0, or b above the b in force",
             Refused::Full => "the frame can't hold it",
         })
@@ -105,30 +107,37 @@ impl fmt::Display for Refused {
 
 impl Error for Refused {}
 
-/// Why a plan's line was refused: a row of document 01's table.
+/// Why a plan's line was refused: a row of document 01's table, or row 4, which request 3 of document 02 adds.
+///
+/// On the framing line row 4 comes before row 2.
 ///
 /// ```
 /// use lembuya::{Plan, PlanRow};
 ///
-/// let no = Plan::read(b"(frame 99999)\n").unwrap_err();
-/// assert_eq!(no.row, PlanRow::Figure);
-/// assert_eq!(no.row.number(), 2);
-/// assert_eq!(no.row.to_string(), "T, O or D out of range");
+/// let no = Plan::read(b"(frame 100000)\n(overhead 1000)\n(interrupt 13000)\n(framing 4)\n").unwrap_err();
+/// assert_eq!(no.row, PlanRow::Framing);
+/// assert_eq!(no.row.number(), 4);
+/// assert_eq!(no.row.to_string(), "the number is neither 3 nor 5");
 /// ```
 #[derive(Clone, Copy, Debug, PartialEq, Eq, Hash)]
 pub enum PlanRow {
     /// Row 1: not the form allowed here, its LF is missing, or the text ends early (line after the
     /// last).
     Form = 1,
-    /// Row 2: T, O or D out of range.
+    /// Row 2: T, O or D out of range; on the framing line: D too small for framing 5.
     Figure = 2,
     /// Row 3: a limit of the tree passed; a `)` closing a hub without ports, or the whole plan
     /// without a node.
     Limit = 3,
+    /// Row 4, the framing line: the number is neither 3 nor 5.
+    Framing = 4,
 }
 
 impl PlanRow {
-    /// The row's number, 1 to 3.
+    /// Every row, by its number.
+    const ALL: [PlanRow; 4] = [PlanRow::Form, PlanRow::Figure, PlanRow::Limit, PlanRow::Framing];
+
+    /// The row's number, 1 to 4.
     pub fn number(self) -> u32 {
         self as u32
     }
@@ -138,43 +147,44 @@ impl PlanRow {
     /// ```
     /// use lembuya::PlanRow;
     ///
-    /// assert_eq!(PlanRow::numbered(2), Some(PlanRow::Figure));
-    /// assert_eq!(PlanRow::numbered(4), None);
+    /// assert_eq!(PlanRow::numbered(4), Some(PlanRow::Framing));
+    /// assert_eq!(PlanRow::numbered(5), None);
     /// ```
     pub fn numbered(number: u64) -> Option<PlanRow> {
-        match number {
-            1 => Some(PlanRow::Form),
-            2 => Some(PlanRow::Figure),
-            3 => Some(PlanRow::Limit),
-            _ => None,
+        PlanRow::ALL.into_iter().find(|row| u64::from(row.number()) == number)
+    }
+
+    /// Its words, which hold on every line that it can refuse.
+    fn words(self) -> &'static str {
+        match self {
+            PlanRow::Form => {
+                "not the form allowed here, its LF is missing, or the text ends early (line after the last)"
+            }
+            PlanRow::Figure => "T, O or D out of range; on the framing line: D too small for framing 5",
+            PlanRow::Limit => {
+                "a limit of the tree passed; a `)` closing a hub without ports, or the whole plan without a node"
+            }
+            PlanRow::Framing => "the number is neither 3 nor 5",
         }
     }
 }
 
 impl fmt::Display for PlanRow {
     fn fmt(&self, f: &mut fmt::Formatter<'_>) -> fmt::Result {
-        f.pad(match self {
-            PlanRow::Form => {
-                "not the form allowed here, its LF is missing, or the text ends early (line after the last)"
-            }
-            PlanRow::Figure => "T, O or D out of range",
-            PlanRow::Limit => {
-                "a limit of the tree passed; a `)` closing a hub without ports, or the whole plan without a node"
-            }
-        })
+        f.pad(self.words())
     }
 }
 
 /// A plan that was refused: at which line, and by which row. The first line from above, then the
-/// first row, decides.
+/// first row, decides. `Display` gives the line and the row's condition [there](PlanRefused::words).
 ///
 /// ```
 /// use lembuya::{Plan, RefusedLine};
 ///
-/// let no = Plan::read(b"(frame 100000)\n(overhead 1000)\n(interrupt 12999)\n").unwrap_err();
-/// assert_eq!((no.line, no.number()), (3, 2));
-/// assert_eq!(no.to_string(), "line 3: T, O or D out of range");
-/// assert_eq!(RefusedLine::from(no).to_string(), "(refused 3 2)"); // as the log has it
+/// let no = Plan::read(b"(frame 100000)\n(overhead 1000)\n(interrupt 13000)\n(framing 4)\n").unwrap_err();
+/// assert_eq!((no.line, no.number()), (4, 4));
+/// assert_eq!(no.to_string(), "line 4: the number is neither 3 nor 5");
+/// assert_eq!(RefusedLine::from(no).to_string(), "(refused 4 4)"); // as the log has it
 /// ```
 #[derive(Clone, Copy, Debug, PartialEq, Eq, Hash)]
 pub struct PlanRefused {
@@ -185,9 +195,30 @@ pub struct PlanRefused {
 }
 
 impl PlanRefused {
-    /// The row's number, 1 to 3.
+    /// The row's number, 1 to 4.
     pub fn number(self) -> u32 {
         self.row.number()
+    }
+
+    /// The row's condition on this line: T, O and D have their ranges on lines 1 to 3, and on line 4, which is the framing's,
+    /// row 2 says something else.
+    ///
+    /// ```
+    /// use lembuya::Plan;
+    ///
+    /// let words = |text: &str| Plan::read(text.as_bytes()).unwrap_err().words();
+    /// assert_eq!(words("(frame 99999)\n"), "T, O or D out of range");
+    /// assert_eq!(
+    ///     words("(frame 100000)\n(overhead 1000)\n(interrupt 36999)\n(framing 5)\n"),
+    ///     "D too small for framing 5, which needs 36,000 + O"
+    /// );
+    /// ```
+    pub fn words(self) -> &'static str {
+        match (self.line, self.row) {
+            (1..=3, PlanRow::Figure) => "T, O or D out of range",
+            (4, PlanRow::Figure) => "D too small for framing 5, which needs 36,000 + O",
+            (_, row) => row.words(),
+        }
     }
 
     /// The refusal that the archive named.
@@ -200,7 +231,7 @@ impl PlanRefused {
 
 impl fmt::Display for PlanRefused {
     fn fmt(&self, f: &mut fmt::Formatter<'_>) -> fmt::Result {
-        write!(f, "line {}: {}", self.line, self.row)
+        write!(f, "line {}: {}", self.line, self.words())
     }
 }
 
@@ -316,10 +347,33 @@ mod tests {
         assert_eq!(refused("(frame 100000)\n(overhead 1000)\n(interrupt 13000)\n"), (4, 1));
         assert_eq!(refused("(frame 99999)\n"), (1, 2));
         assert_eq!(refused("(frame 100000)\n(overhead 1000)\n(interrupt 13000)\n(hub\n)\n"), (5, 3));
+        assert_eq!(refused("(frame 100000)\n(overhead 1000)\n(interrupt 13000)\n(framing 4)\n"), (4, 4));
+        assert_eq!(PlanRow::ALL.map(PlanRow::number), [1, 2, 3, 4]);
+    }
+
+    /// Request 3 of document 02: on the framing line first 1, then 4, then 2; anywhere else such a line is 1.
+    #[test]
+    fn the_framing_line_has_its_rows_in_order() {
+        let refused = |interrupt: u64, lines: &str| {
+            let text =
+                format!("(frame 100000)\n(overhead 1000)\n(interrupt {interrupt})\n{lines}(hub\n(node)\n)\n");
+            Plan::read(text.as_bytes()).map_err(|no| (no.line, no.number())).err()
+        };
+        // D starts at 12,000 + 1,000 by framing 3, and at 36,000 + 1,000 by framing 5.
+        assert_eq!(refused(13_000, "(framing 3)\n"), None);
+        assert_eq!(refused(37_000, "(framing 5)\n"), None);
+        assert_eq!(refused(36_999, "(framing 5)\n"), Some((4, 2)));
+        assert_eq!(refused(12_999, "(framing 4)\n"), Some((3, 2)));
+        assert_eq!(refused(13_000, "(framing 4)\n"), Some((4, 4)));
+        assert_eq!(refused(13_000, "(framing 9999999999999999)\n"), Some((4, 4)));
+        for line in ["(framing 10000000000000000)\n", "(framing 03)\n", "(framing)\n", "(framing 5 5)\n"] {
+            assert_eq!(refused(13_000, line), Some((4, 1)), "{line}");
+        }
+        assert_eq!(refused(37_000, "(framing 5)\n(framing 5)\n"), Some((5, 1)));
     }
 
     #[test]
-    fn the_words_are_document_01s() {
+    fn the_words_are_the_documents() {
         assert_eq!(
             Refused::ALL.map(|row| row.to_string()),
             [
@@ -327,21 +381,45 @@ mod tests {
                 "an instant strictly before t is due",
                 "k is 0 or above N",
                 "n above 64",
-                "b outside 512 to 12,000; in a reserve with n = 0 instead: b not 0",
+                "b outside 512 to the plan's longest packet; in a reserve with n = 0 instead: b not 0",
                 "n in force at t is 0, or b above the b in force",
                 "the frame can't hold it",
             ]
         );
-        let words = |row| PlanRefused { line: 7, row }.to_string();
         assert_eq!(
-            [PlanRow::Form, PlanRow::Figure, PlanRow::Limit].map(words),
+            PlanRow::ALL.map(|row| row.to_string()),
             [
-                "line 7: not the form allowed here, its LF is missing, or the text ends early (line after the last)",
-                "line 7: T, O or D out of range",
-                "line 7: a limit of the tree passed; a `)` closing a hub without ports, or the whole plan without a node",
+                "not the form allowed here, its LF is missing, or the text ends early (line after the last)",
+                "T, O or D out of range; on the framing line: D too small for framing 5",
+                "a limit of the tree passed; a `)` closing a hub without ports, or the whole plan without a node",
+                "the number is neither 3 nor 5",
             ]
         );
         assert_eq!(Short.to_string(), "the lent buffer is shorter than the line");
+    }
+
+    /// Of row 2's two conditions a refused plan's line can only meet one.
+    #[test]
+    fn the_words_are_those_of_the_line() {
+        let shown = |text: &str| Plan::read(text.as_bytes()).unwrap_err().to_string();
+        assert_eq!(shown("(frame 99999)\n"), "line 1: T, O or D out of range");
+        assert_eq!(shown("(frame 100000)\n(overhead 50001)\n"), "line 2: T, O or D out of range");
+        let figures = |interrupt: u64| format!("(frame 100000)\n(overhead 1000)\n(interrupt {interrupt})\n");
+        // D is less than 12,000 + 1,000 on its own line, and less than 36,000 + 1,000 on that of framing 5.
+        assert_eq!(shown(&figures(12_999)), "line 3: T, O or D out of range");
+        assert_eq!(
+            shown(&(figures(36_999) + "(framing 5)\n")),
+            "line 4: D too small for framing 5, which needs 36,000 + O"
+        );
+        assert_eq!(shown(&(figures(36_999) + "(framing 6)\n")), "line 4: the number is neither 3 nor 5");
+        assert_eq!(
+            shown(&(figures(37_000) + "(framing 5)\n(hub\n)\n")),
+            "line 6: a limit of the tree passed; a `)` closing a hub without ports, or the whole plan without a node"
+        );
+        // The other rows have the same words on every line.
+        for row in [PlanRow::Form, PlanRow::Limit, PlanRow::Framing] {
+            assert!((1..=5).all(|line| PlanRefused { line, row }.words() == row.to_string()), "{row}");
+        }
     }
 
     #[test]

@@ -16,6 +16,11 @@ pub fn read(text: &[u8], plan: &mut Plan) -> (u32, [u64; 4]) {
     (number, told)
 }
 
+pub fn longest(plan: &Plan) -> u64 {
+    // SAFETY: `plan` is whole.
+    unsafe { ffi::lembuya_longest(plan) }
+}
+
 pub fn fresh(cascade: &mut Cascade) {
     // SAFETY: `cascade` is whole and borrowed mutably.
     unsafe { ffi::lembuya_fresh(cascade) }

@@ -6,6 +6,15 @@ use std::process::{Command, Output, Stdio};
 const EXAMPLE: &str = concat!(env!("CARGO_MANIFEST_DIR"), "/../examples/example.text");
 const LOG: &str = include_str!("../../examples/example.log");
 
+/// A plan of framing 5 whose packets have the greatest length, and one too long.
+const RING: &str =
+    "(frame 200000)\n(overhead 1000)\n(interrupt 37000)\n(framing 5)\n(hub\n(node)\n(node)\n)\n\
+    (reserve 0 2 1 36000)\n(normal 0 1 36000)\n(normal 0 2 36001)\n(high 200000 2 36000)\n(until 400000)\n";
+/// By hand: line 11 asks for more than 36,000 bits. Each grant holds the line for 36,000 + 1,000, node 2's in frame 1, from
+/// whose start on its reservation is in force. There is one hub, so control never moves.
+const RING_LOG: &str = "(nodes 2 hubs 1)\n(refused 11 15)\n(grant 0 1 1 37000 0)\n(rest 37000 0)\n\
+    (grant 200000 2 2 237000 0)\n(rest 237000 0)\n";
+
 /// What the command did with words and standard input: status, standard output and standard error.
 fn lembuya(words: &[&str], stdin: &str) -> (i32, String, String) {
     let mut command = Command::new(env!("CARGO_BIN_EXE_lembuya"));
@@ -65,6 +74,85 @@ fn limits_are_document_01s() {
 }
 
 #[test]
+fn a_plan_of_framing_5_is_run_with_its_own_lengths() {
+    let (status, out, err) = lembuya(&["run", "-"], RING);
+    assert_eq!((status, out.as_str()), (0, RING_LOG));
+    let words =
+        "b outside 512 to the plan's longest packet, here 36000; in a reserve with n = 0 instead: b not 0";
+    assert_eq!(err, format!("-:11: refused 15: {words}: (normal 0 2 36001)\n"));
+    // Without its framing line the same plan is one of framing 3, whose packets have 12,000 bits at most: all four are too long.
+    let (_, out, err) = lembuya(&["run", "-"], &RING.replace("(framing 5)\n", ""));
+    assert_eq!(out, "(nodes 2 hubs 1)\n(refused 8 15)\n(refused 9 15)\n(refused 10 15)\n(refused 11 15)\n");
+    let words =
+        "b outside 512 to the plan's longest packet, here 12000; in a reserve with n = 0 instead: b not 0";
+    assert_eq!(err.lines().next(), Some(&*format!("-:8: refused 15: {words}: (reserve 0 2 1 36000)")));
+    assert_eq!(err.lines().filter(|line| line.contains(&format!(": refused 15: {words}: ("))).count(), 4);
+}
+
+/// Limits, JSON and pictures have row 15's figure too.
+#[test]
+fn a_length_too_long_is_told_with_the_plans_longest() {
+    let words =
+        "b outside 512 to the plan's longest packet, here 36000; in a reserve with n = 0 instead: b not 0";
+    let (_, _, err) = lembuya(&["limits", "-"], RING);
+    assert_eq!(err, format!("-:11: refused 15: {words}: (normal 0 2 36001)\n"));
+    let (_, out, _) = lembuya(&["run", "--json", "-"], RING);
+    let object = "\"file\":\"-\",\"form\":\"refused\",\"line\":11,\"number\":15";
+    assert_eq!(out.lines().nth(1), Some(&*format!("{{{object},\"words\":\"{words}\"}}")));
+    let (_, out, _) = lembuya(&["picture", "-"], RING);
+    assert!(out.contains(&format!("<title>(refused 11 15): {words}</title>")), "{out}");
+}
+
+#[test]
+fn a_framing_line_is_refused_in_words() {
+    let refused = |old: &str, new: &str| lembuya(&["run", "-"], &RING.replace(old, new));
+    let (status, out, err) = refused("(framing 5)", "(framing 4)");
+    assert_eq!((status, out.as_str()), (1, "(refused 4 4)\n"));
+    assert_eq!(err, "-:4: refused 4: the number is neither 3 nor 5: (framing 4)\n");
+    // D is 12,000 + O at least, but less than 36,000 + O.
+    let (status, out, err) = refused("(interrupt 37000)", "(interrupt 36999)");
+    assert_eq!((status, out.as_str()), (1, "(refused 4 2)\n"));
+    let words = "D too small for framing 5, which needs 36,000 + O";
+    assert_eq!(err, format!("-:4: refused 2: {words}: (framing 5)\n"));
+    for command in ["limits", "picture"] {
+        let told = lembuya(&[command, "-"], &RING.replace("(interrupt 37000)", "(interrupt 36999)"));
+        assert_eq!(told, (1, String::new(), err.clone()), "{command}");
+    }
+    // D below 12,000 + O is refused on its own line, and there it is D's range.
+    let (status, out, err) = refused("(interrupt 37000)", "(interrupt 12999)");
+    assert_eq!((status, out.as_str()), (1, "(refused 3 2)\n"));
+    assert_eq!(err, "-:3: refused 2: T, O or D out of range: (interrupt 12999)\n");
+    let (status, out, _) =
+        lembuya(&["run", "--json", "--quiet", "-"], &RING.replace("(framing 5)", "(framing 0)"));
+    let words = "\"words\":\"the number is neither 3 nor 5\"";
+    assert_eq!(status, 1);
+    assert_eq!(out, format!("{{\"file\":\"-\",\"form\":\"refused\",\"line\":4,\"number\":4,{words}}}\n"));
+}
+
+#[test]
+fn limits_and_pictures_say_the_framing() {
+    let (status, out, _) = lembuya(&["limits", "-"], RING);
+    let lines: Vec<Vec<&str>> = out.lines().map(|line| line.split_whitespace().collect()).collect();
+    assert_eq!(status, 0);
+    assert!(lines[0].ends_with(&["framing", "5,", "longest", "packet", "36000"]), "{out}");
+    // D + 1 × (36,000 + 1,000), 37 % of 200,000; node 2's share is 37,000, 18.5 %, and its limit the whole load: it is alone.
+    assert_eq!(lines[1], ["load", "74000", "of", "200000", "bit", "times,", "37.00", "%"]);
+    assert_eq!(lines[3], ["2", "1", "36000", "37000", "18.50", "74000", "740.00"]);
+    let (status, out, _) = lembuya(&["picture", "-"], RING);
+    assert_eq!(status, 0);
+    assert!(out.contains("; framing 5, longest packet 36000 bits</text>"));
+    // All of it is 400,000 bit times on 1,000 units from 80 on, so a grant of 37,000 is 92.5 wide, and 200,000 stands at 580.
+    let bars = |class: &str, grant: &str, x: &str| {
+        let is_bar = |line: &&str| {
+            line.starts_with(&format!("<rect class=\"{class}\" x=\"{x}\"")) && line.contains(grant)
+        };
+        out.lines().filter(is_bar).filter(|line| line.contains(" width=\"92.5\"")).count()
+    };
+    assert_eq!(bars("normal", "<title>(grant 0 1 1 37000 0)</title>", "80"), 1);
+    assert_eq!(bars("high", "<title>(grant 200000 2 2 237000 0)</title>", "580"), 1);
+}
+
+#[test]
 fn a_picture_has_each_grant_of_the_log_once() {
     let (status, out, err) = lembuya(&["picture", EXAMPLE], "");
     assert_eq!((status, err.as_str()), (0, ""));
@@ -116,6 +204,15 @@ fn bad_usage_is_status_2_and_help_is_0() {
         assert!(out.starts_with(&format!("lembuya {command} ")));
     }
     assert_eq!(lembuya(&["--help"], "").0, 0);
+}
+
+#[test]
+fn help_says_what_d_must_be() {
+    for words in [&["--help"][..], &["limits", "--help"]] {
+        let out = lembuya(words, "").1;
+        let flowing = out.split_whitespace().collect::<Vec<_>>().join(" ");
+        assert!(flowing.contains("D is at least 12,000 + O, with (framing 5) 36,000 + O"), "{out}");
+    }
 }
 
 #[test]

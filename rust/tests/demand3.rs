@@ -7,7 +7,7 @@ use archive::{on_all, setting, Archive};
 use reference::core::Class::{self, High, Normal};
 use reference::demand3::{measure, Held, Watch};
 use reference::hub::{Answer, Call, Calls};
-use reference::plan::{self, Plan};
+use reference::plan::{self, Framing, Plan};
 use reference::random::calls::{Caller, Style};
 use reference::random::{plans, Random};
 
@@ -134,22 +134,22 @@ fn random_lists_keep_it() {
 /// grant. Some of them miss a turn, ask for less or leave.
 fn press(plan: &Plan, random: &mut Random, hub: &mut Watched) {
     let frame = plan.frame;
-    let nodes = plan.nodes as u64;
+    let (nodes, longest) = (plan.nodes as u64, plan.longest_packet());
     let few = random.within(1..=nodes.min(10));
     let set: Vec<u64> = (0..few).map(|_| random.within(1..=nodes)).collect();
     let mut shares = vec![(0, 0); plan.nodes];
     for &k in &set {
-        let (n, b) = (random.within(1..=6), random.within_or_end(512..=12_000));
+        let (n, b) = (random.within(1..=6), random.within_or_end(512..=longest));
         if hub.call(Call::Reserve { t: 0, k, n, b }) == Answer::Taken {
             shares[k as usize - 1] = (n, b);
         }
     }
     for f in 2..8 {
         let start = f * frame;
-        let early = random.one_of(&[0, 0, 1, 1, 500, 12_000]);
+        let early = random.one_of(&[0, 0, 1, 1, 500, longest]);
         let t = start - early;
         while matches!(hub.call(Call::Step { t }), Answer::Grant { .. } | Answer::Rest { .. }) {}
-        hub.call(Call::Normal { t, k: random.within(1..=nodes), b: 12_000 });
+        hub.call(Call::Normal { t, k: random.within(1..=nodes), b: longest });
         hub.call(Call::Step { t: t + 1 });
         let mut order = set.clone();
         for from in (1..order.len()).rev() {
@@ -160,8 +160,8 @@ fn press(plan: &Plan, random: &mut Random, hub: &mut Watched) {
         }
         let faulty = random.chance(20);
         let mut grants = vec![0; plan.nodes];
-        while let Answer::Grant { time, node, class, .. } = hub.call(Call::Step { t: start + frame - 12_001 })
-        {
+        let late = start + frame - longest - 1;
+        while let Answer::Grant { time, node, class, .. } = hub.call(Call::Step { t: late }) {
             let (n, b) = shares[node as usize - 1];
             grants[node as usize - 1] += u64::from(class == High);
             if grants[node as usize - 1] < n {
@@ -176,20 +176,26 @@ fn press(plan: &Plan, random: &mut Random, hub: &mut Watched) {
 
 #[test]
 fn pressing_lists_keep_it() {
-    let lists = setting("LEMBUYA_CALLS", 1_000_000).div_ceil(200);
+    Framing::BOTH.into_iter().for_each(pressing_lists);
+}
+
+/// By one framing, with D at its least.
+fn pressing_lists(framing: Framing) {
+    let lists = setting("LEMBUYA_CALLS", 1_000_000).div_ceil(400);
     let mut measured = on_all(
         0..lists,
         |seed, measured| {
             let mut random = Random::new(seed);
             let mut plan = plans::small_plan(&mut random, 40);
-            plan.interrupt = 12_000 + plan.overhead;
+            plan.framing_line = Some(framing);
+            plan.interrupt = plan.longest_packet() + plan.overhead;
             let mut hub = Watched::new(&plan);
             press(&plan, &mut random, &mut hub);
             hub.end(&plan, seed, measured);
         },
         Measured::join,
     );
-    measured.print("pressing lists");
+    measured.print(&format!("pressing lists, framing {}", framing.number()));
     assert!(measured.held > lists, "the premises hardly ever hold");
     assert_eq!(measured.slacks[0].0, 0, "the limit is met exactly");
 }

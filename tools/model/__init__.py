@@ -1,8 +1,8 @@
-"""One model of document 01 with requests 4, 5 and 13 of document 02, written from their words alone. Words in quotes are theirs.
+"""One model of document 01 with requests 3, 4, 5 and 13 of document 02, written from their words alone. Words in quotes are theirs.
 
     figures      every number that the documents fix, named once
     text         lines of a text and their forms
-    plan         the plan and its reader, with rows 1 to 3
+    plan         the plan and its reader, with rows 1 to 4
     calls        events, steps and answers as values
     core         the clock, the line, requests, reservations, frames
     rows         the rows from 11 on, one by one

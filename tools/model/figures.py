@@ -1,4 +1,4 @@
-"""Document 01's figures, each named once. Times are in bit times, lengths in bits."""
+"""The figures of document 01 and of request 3, each named once. Times are in bit times, lengths in bits."""
 
 # "No leading zeros except 0 itself; a number has at most 16 digits; a line has at most 80 bytes without its LF."
 MOST_DIGITS = 16
@@ -17,9 +17,11 @@ MOST_PORTS = 32
 MOST_NODES = 256
 MOST_LEVELS = 5
 
-# A packet's length is refused "outside 512 to 12,000", and D is at least 12,000 + O. A plan has both figures; ask it.
+# A packet's length is refused "outside 512 to 12,000", and D is at least 12,000 + O; by request 3 that is framing 3, which is meant where a
+# plan has no framing line, and "with 5 the longest packet is 36,000 bits and D starts at 36,000 + O". A plan has both lengths; ask it.
 SHORTEST_PACKET = 512
-LONGEST_PACKET = 12_000
+LONGEST_PACKETS = {3: 12_000, 5: 36_000}  # framing -> longest packet
+FRAMING_MEANT = 3
 
 # Refused is an "n above 64", and a "t above 10^15".
 MOST_PACKETS = 64

@@ -2,7 +2,7 @@
 from typing import NamedTuple
 
 from .figures import (
-    FRAME_RANGE, LONGEST_PACKET, MOST_HUBS, MOST_LEVELS, MOST_NODES, MOST_PORTS, OVERHEAD_RANGE, SHORTEST_PACKET)
+    FRAME_RANGE, FRAMING_MEANT, LONGEST_PACKETS, MOST_HUBS, MOST_LEVELS, MOST_NODES, MOST_PORTS, OVERHEAD_RANGE, SHORTEST_PACKET)
 from .text import Lines, form, refuse
 
 ROOT = 1  # "Hub 1 is the root."
@@ -20,32 +20,55 @@ class Place(NamedTuple):
 
 
 class Plan:
-    """T, O and D; and the tree: "Nodes and hubs are numbered from 1 in line order, ports from 1 within their hub."
+    """T, O and D; the framing; and the tree: "Nodes and hubs are numbered from 1 in line order, ports from 1 within their hub."
 
     Making one takes its lines; it raises a Refusal at the first line that a row refuses.
     """
 
     shortest_packet = SHORTEST_PACKET
-    longest_packet = LONGEST_PACKET
 
     def __init__(self, lines):
+        self.framing = FRAMING_MEANT
         self.nodes = 0
         self.ports = {}  # hub -> its ports in order
         self.level = {}  # hub -> its level, "the root hub being level 1"
         self.above = {}  # each hub but the root -> its place
         self.read_figures(lines)
-        refuse(1, lines.next() != b'(hub')
+        refuse(1, self.read_framing(lines) != b'(hub')
         self.read_hub(lines, 1)
 
     @property
     def hubs(self):
         return len(self.ports)
 
+    @property
+    def longest_packet(self):
+        return LONGEST_PACKETS[self.framing]
+
+    @property
+    def least_interrupt(self):
+        """"D starts at" the longest packet "+ O"."""
+        return self.longest_packet + self.overhead
+
     def read_figures(self, lines):
-        """"First `(frame T)`, then `(overhead O)`, then `(interrupt D)`"; D "is 12,000 + O to T"."""
+        """"First `(frame T)`, then `(overhead O)`, then `(interrupt D)`"; D "is 12,000 + O to T", whatever follows."""
         self.frame = read_figure(lines, b'frame', *FRAME_RANGE)
         self.overhead = read_figure(lines, b'overhead', *OVERHEAD_RANGE)
-        self.interrupt = read_figure(lines, b'interrupt', self.longest_packet + self.overhead, self.frame)
+        self.interrupt = read_figure(lines, b'interrupt', self.least_interrupt, self.frame)
+
+    def read_framing(self, lines):
+        """"A plan may have, as its fourth line, `(framing 3)` or `(framing 5)`; without it, 3 is meant." The line behind it, or the fourth.
+
+        One that isn't the form stays for row 1, which refuses it there as no `(hub`; the other rows are "4 .. after 1", "2 .. after 4".
+        """
+        fourth = lines.next()
+        numbers = form(fourth, b'framing', 1)
+        if numbers is None:
+            return fourth
+        self.framing, = numbers
+        refuse(4, self.framing not in LONGEST_PACKETS)
+        refuse(2, self.interrupt < self.least_interrupt)
+        return lines.next()
 
     def read_hub(self, lines, level):
         """The number of a hub whose line `(hub` has just been handed out; it is read up to its `)`."""

@@ -42,7 +42,7 @@ def too_many_packets(core, call):
     return call.n > MOST_PACKETS
 
 
-# "b outside 512 to 12,000; in a reserve with n = 0 instead: b not 0"
+# "b outside 512 to 12,000; in a reserve with n = 0 instead: b not 0"; request 3: "takes the longest packet from the plan"
 @row(15, ('normal', 'high', 'reserve'))
 def no_length(core, call):
     if call.n == 0:

@@ -46,6 +46,11 @@ def plan(T, O, D, *hub):
     return [*figures(T, O, D), *hub]
 
 
+def framed(framing, lines):
+    """The lines with a framing line as their fourth, so that each one behind it has a number more."""
+    return [*lines[:3], f'(framing {framing})', *lines[3:]]
+
+
 EXAMPLE = plan(100000, 1000, 13000, '(hub', '(node)', '(hub', '(node)', '(node)', ')', '(node)', ')')
 
 

@@ -2,12 +2,12 @@
 import random
 
 from model.calls import call, written
-from model.figures import LATEST_TIME, MOST_LEVELS, MOST_PORTS
+from model.figures import FRAMING_MEANT, LATEST_TIME, LONGEST_PACKETS, MOST_LEVELS, MOST_PORTS
 from model.hub import Hub
 from model.log import answers_to
 from model.plan import plan_of
 
-from .case import Cases, as_bytes, plan
+from .case import Cases, as_bytes, framed, plan
 
 cases = Cases()
 
@@ -39,11 +39,11 @@ def random_tree(rng, hubs, nodes, empties):
     return lines(1)
 
 
-def random_figures(rng):
+def random_figures(rng, framing):
     T = rng.choice([100000, 100000, 4000000, rng.randint(100000, 400000)])
     O = rng.choice([0, 1000, 50000, rng.randint(0, 50000)])
-    D = T if rng.random() < .08 else 12000 + O + rng.choice([0, 0, rng.randint(0, 20000)])
-    return T, O, D
+    D = T if rng.random() < .08 else LONGEST_PACKETS[framing] + O + rng.choice([0, 0, rng.randint(0, 20000)])
+    return T, O, min(T, D)
 
 
 def random_time(rng, core):
@@ -56,29 +56,35 @@ def random_time(rng, core):
     return rng.choice(times) if rng.random() < .97 else rng.choice([LATEST_TIME + 1, max(0, core.clock - 1), LARGEST_NUMBER])
 
 
+def random_length(rng, plan):
+    """Of framing 5 also a length just above framing 3's longest."""
+    longer = [longest + 1 for longest in LONGEST_PACKETS.values() if longest < plan.longest_packet]
+    return rng.choice([512, 512, 600, 4000, plan.longest_packet, rng.randint(512, plan.longest_packet), *longer])
+
+
 def random_event(rng, core):
     """Now and then with a number that a row refuses."""
     nodes, t = core.plan.nodes, random_time(rng, core)
     k = rng.randint(1, nodes) if rng.random() < .97 else rng.choice([0, nodes + 1, LARGEST_NUMBER])
-    n, b = rng.choice([0, 1, 1, 2, 3]), rng.choice([512, 512, 600, 4000, 12000, rng.randint(512, 12000)])
+    n, b = rng.choice([0, 1, 1, 2, 3]), random_length(rng, core.plan)
     x = rng.random()
     if x < .2:
-        return random_reserve(rng, t, k, n, b)
+        return random_reserve(rng, core, t, k, n, b)
     if x < .8:
         return random_request(rng, core, t, k, b)
     return call('off', t, k) if x < .9 else call('until', t)
 
 
-def random_reserve(rng, t, k, n, b):
+def random_reserve(rng, core, t, k, n, b):
     if rng.random() < .1:
-        n, b = rng.choice([64, 65, LARGEST_NUMBER]), rng.choice([0, 511, 512, 12001])
+        n, b = rng.choice([64, 65, LARGEST_NUMBER]), rng.choice([0, 511, 512, core.plan.longest_packet + 1])
     return call('reserve', t, k, n, b if n or rng.random() < .1 else 0)
 
 
 def random_request(rng, core, t, k, b):
     longest = core.in_force(k, t).b if 1 <= k <= core.plan.nodes else 0
     high = rng.random() < (.8 if longest else .1)
-    b = b if rng.random() < .96 else rng.choice([0, 511, 12001, LARGEST_NUMBER])
+    b = b if rng.random() < .96 else rng.choice([0, 511, core.plan.longest_packet + 1, LARGEST_NUMBER])
     return call('high' if high else 'normal', t, k, min(b, longest) if high and longest and rng.random() < .9 else b)
 
 
@@ -88,9 +94,10 @@ def damaged(rng, line):
     return rng.choice([line[:at] + byte + line[at + 1:], line[:at] + line[at + 1:], line[:at] + byte + line[at:]])
 
 
-def random_text(rng, sizes, events):
-    """A hub goes along, so that each event's time is near the clock."""
-    lines = plan(*random_figures(rng), *random_tree(rng, *sizes))
+def random_text(rng, sizes, events, framing=None):
+    """A hub goes along, so that each event's time is near the clock. The framing line is there if a framing is given."""
+    lines = plan(*random_figures(rng, framing or FRAMING_MEANT), *random_tree(rng, *sizes))
+    lines = framed(framing, lines) if framing else lines
     hub = Hub(plan_of(lines))
     for _ in range(events):
         line = written(random_event(rng, hub.core))
@@ -111,6 +118,7 @@ SIZES = [
     (1, 1, 0), (1, 32, 0), (1, 2, 30), (2, 3, 1), (3, 5, 2), (5, 6, 0), (6, 8, 4), (9, 12, 3), (12, 20, 10), (16, 40, 0), (20, 60, 30),
     (24, 100, 50), (32, 40, 0), (32, 200, 100), (32, 256, 0), (32, 256, 700), (8, 225, 0)]
 DAMAGED_SIZES = [(4, 6, 2), (12, 30, 5), (32, 256, 20)]
+FRAMED_SIZES = [(1, 2, 0), (2, 3, 1), (5, 8, 3), (9, 12, 3), (20, 60, 30), (32, 256, 0)]
 
 
 def add_cases():
@@ -126,4 +134,14 @@ def add_cases():
     cases.by_model(f'random-{len(SIZES) + 4}', 'random, cut in its last line', as_bytes(short)[:-3])
 
 
+def add_framed_cases():
+    """From numbers of their own, so that those above stay as they are."""
+    rng = random.Random(3)
+    for framing in LONGEST_PACKETS:
+        for i, sizes in enumerate(FRAMED_SIZES, 1):
+            purpose = 'random events with framing {} on at most {} hubs, {} nodes and {} empty ports'.format(framing, *sizes)
+            cases.by_model(f'random-framing-{framing}-{i}', purpose, random_text(rng, sizes, 150, framing))
+
+
 add_cases()
+add_framed_cases()

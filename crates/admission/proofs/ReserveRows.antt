@@ -7,6 +7,7 @@ use Rattle.rules.specs.Plan.{Plan}
 use Rattle.rules.specs.Drawn.{Within}
 use Rattle.rules.specs.Call.{reserve, until}
 use Rattle.rules.specs.Promises.{InRange, given-up, packets}
+use Rattle.rules.proofs.Laws.Lengths.{longest-up}
 use Rattle.rules.proofs.Core.RowsPassed.{passed13, passed14, passed15r}
 use Rattle.cells.specs.Layout.{half}
 use Rattle.cells.specs.Decode.{planIn}
@@ -17,7 +18,7 @@ use Rattle.admission.specs.Share.{shareRows, shareRowBy}
 -- row 15 of a reserve
 pub in-range : {p : Plan} {n b : ℕ} → InRange p n b → b < half
 in-range given-up = omega arith
-in-range (packets n b some low up) = omega arith
+in-range {p} (packets n b some low up) = omega (arith, longest-up (p .framing))
 
 -- its node is one of the plan, and its figures fit a half of a cell each
 pub record Reserved (P : List ℕ) (k n b : ℕ) : Type 0 where

@@ -7,23 +7,22 @@ ghost use mathlib.Core.Bool.{not, _||_};
 ghost use Prim.Native.Nat.{_+_, _*_, _/_, _%_, _≤_};
 ghost use lib.Dec.{ltb, eqb};
 ghost use Rattle.rules.specs.Choice.{if_then_else_};
-ghost use Rattle.rules.specs.Plan.{longest-packet};
 ghost use Rattle.rules.specs.Drawn.{Within};
 ghost use Rattle.rules.specs.Call.{reserve};
-ghost use Rattle.rules.specs.Rows.{row17};
+ghost use Rattle.rules.specs.Rows.{row15r, row17};
 ghost use Rattle.cells.specs.Layout.{half, shareOf, shareCode};
 ghost use Rattle.cells.specs.Decode.{planIn, coreOf};
 ghost use Rattle.cells.specs.Calls.{rowBy};
 ghost use Rattle.admission.specs.Share.{shareRowBy};
 
 // 15 in a reserve: with n = 0 instead, b not 0.
-fn share_outside(n: u64, b: u64) -> bool
-    ensures { λ r. ⌜ r ≡ (if eqb n 0 then not (eqb b 0) else (ltb b 512 || ltb longest-packet b)) ⌝ }
+fn share_outside(p: &Plan, n: u64, b: u64) -> bool
+    ensures { λ r. ⌜ r ≡ row15r (planIn (now (p .entry))) n b .applies ⌝ }
 {
     if n == 0 {
         return b != 0;
     }
-    rows::outside(b)
+    rows::outside(p, b)
 }
 
 // The cell of a reservation.
@@ -70,7 +69,7 @@ pub fn share_row(p: &Plan, s: &Cascade, k: u64, n: u64, b: u64) -> u32
     if 64 < n {
         return 14;
     }
-    if share_outside(n, b) {
+    if share_outside(p, n, b) {
         return 15;
     }
     if overfull(p, s, k as u32, share_code(n as u16, b as u16)) {

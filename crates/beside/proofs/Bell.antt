@@ -9,7 +9,7 @@ use Rattle.text.specs.Form.{andThen, readSpaced, readClose, readNumbers, readBe
 use Rattle.plan_tree.specs.Kind.{kindOf}
 use Rattle.plan_tree.specs.Tables.{putEmpty, putNode, putHub, putPorts, putRoot}
 use Rattle.plan.specs.Tables.{putFigures, planOf}
-use Rattle.plan.specs.Reading.{hubLines, rootLine, interruptLine, overheadLine, frameLine, reading}
+use Rattle.plan.specs.Reading.{hubLines, rootLine, framingLine, interruptLine, overheadLine, frameLine, reading}
 use Rattle.plan_theory.specs.Taken.{TakenAs}
 use Rattle.trials.specs.Text.{bytes, textOf}
 use Rattle.trials.specs.Plans.{plan01}
@@ -65,7 +65,7 @@ computed : Computed
 unfolding
     bytes textOf
     before lines digitRun keepDigit wellFormed valueFrom readRun readNumber startsWith isWord andThen readSpaced readClose readNumbers readBehind readForm
-    kindOf reading frameLine overheadLine interruptLine rootLine hubLines putRoot putNode putEmpty putHub putPorts putFigures planOf
+    kindOf reading frameLine overheadLine interruptLine framingLine rootLine hubLines putRoot putNode putEmpty putHub putPorts putFigures planOf
     any sum first advance shows maskUpTo withPort putPort atOrAfter anyUpTo firstOf lowestFrom
     putTime coreOf controlOf pointed freshCells mend mendBit mendClass putRequest grantNode clearMasks showPort showRequest showNodes showHub showHubs buildMasks startCells startNodes startFrame advanceBy soughtBy restingDue dueBy
     downBy takeBy upBy handUpBy foundBy lookBy afterLook walkBy nearerBy nearestBy walked settled chooseBy

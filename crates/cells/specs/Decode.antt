@@ -20,6 +20,7 @@ bounded p =
       frame = p .frame;
       overhead = p .overhead;
       interrupt = p .interrupt;
+      framing = p .framing;
       nodes = min (p .nodes) most-nodes;
       hubs = p .hubs;
       ports = p .ports;

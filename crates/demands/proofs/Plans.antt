@@ -3,6 +3,7 @@ use mathlib.Core.Path.{_≡_, refl}
 use mathlib.Core.List.{List}
 use Prim.Native.Nat.{ℕ}
 use Rattle.plan.specs.Reading.{reading, leaves}
+use Rattle.plan.proofs.Reading.AsBefore.{read-as-before}
 use Rattle.plan_theory.specs.Taken.{RefusedAt}
 use Rattle.plan_theory.proofs.Tree.Taken.{drawing-taken, taken-iff, refused-iff}
 use Rattle.plan_theory.proofs.First.Theorem.{refused-decided}
@@ -20,5 +21,6 @@ plan-demands text =
       refused-iff = refused-iff text;
       taken-no-row = taken-no-row text;
       first-line = refused-decided text;
+      as-before = read-as-before text;
       refusal-changes-nothing = left-alone text;
     }

@@ -9,6 +9,7 @@
 --   reserve(p, s, t, k, n, b) EventPromise P (reserve t k n b) s r z
 --   until(p, s, t)           EventPromise P (until t) s r z
 --   step(p, s, t)            StepPromise P t s r z
+--   lembuya_longest(p)       answers longest (planOf P), the longest packet (lembuya/src/lib.rt)
 --
 -- where P and s are the cells at entry, r is the answer and z the cascade's cells at exit. Below: what
 -- follows for every text that is read (`PlanDemands`), and for every list of such calls from the fresh
@@ -16,7 +17,7 @@
 -- Of lists that also hold calls beside the hub the same is said in `beside`, specs/SameHub.antt.
 use Prim.Native.Nat.{ℕ, _-_, _*_, _≤_}
 use mathlib.Core.Path.{_≡_}
-use mathlib.Core.Bool.{true}
+use mathlib.Core.Bool.{true, false}
 use mathlib.Core.Logic.{_↔_}
 use mathlib.Core.List.{List, [], _∷_, map}
 use Rattle.rules.specs.Plan.{Plan, levels}
@@ -34,6 +35,7 @@ use Rattle.rules.specs.AnyMoment.{AnyMoment}
 use Rattle.rules.specs.Promises.{NoTimeLost, Admits, Acceptable}
 use Rattle.text.specs.Line.{lines}
 use Rattle.plan.specs.Reading.{reading, leaves}
+use Rattle.plan.specs.AsBefore.{hasFraming, readingBefore}
 use Rattle.plan_theory.specs.Taken.{DrawnBy, TakenAs, RefusedAt, TakenFor}
 use Rattle.plan_theory.specs.First.{RowApplies, DecidedBy}
 use Rattle.cells.specs.declared.Step.{Step}
@@ -46,7 +48,7 @@ use Rattle.refinement.specs.Written.{FewWrites}
 
 -- Demand 2, of plans
 pub record PlanDemands (text : List ℕ) : Type 0 where
-  -- a text is taken just where it starts with the drawing of a tree within the limits, behind three good figures
+  -- a text is taken just where it starts with the drawing of a tree within the limits, behind good figures
   pub taken-iff : ((nodes : ℕ) × (hubs : ℕ) × (at : ℕ) × (line : ℕ) × TakenAs text nodes hubs at line) ↔ DrawnBy text
   -- and then for just the hubs, ports, nodes and figures that its lines draw
   pub taken-for : (d : DrawnBy text) → TakenFor text (d .fig) (d .tree) (d .rest)
@@ -56,6 +58,8 @@ pub record PlanDemands (text : List ℕ) : Type 0 where
   pub taken-no-row : DrawnBy text → (n k : ℕ) → RowApplies (lines text) n k → ⊥
   -- the first line from above to which a row applies, then the first row, decides
   pub first-line : (line number : ℕ) → RefusedAt text line number → DecidedBy text line number
+  -- request 3: a text whose fourth line is no framing's is read as document 01 alone has it
+  pub as-before : hasFraming text ≡ false → reading text ≡ readingBefore text
   -- Demand 1: a refused plan leaves the lent tables as they were
   pub refusal-changes-nothing : (line number : ℕ) → RefusedAt text line number → (plan : List ℕ) → leaves (reading text) plan ≡ plan
 

@@ -8,8 +8,10 @@ use plan_tree::Plan;
 use writer::Put;
 ghost use mathlib.Core.Path.{_≡_};
 ghost use lib.ListN.{set};
+ghost use Rattle.rules.specs.Plan.{longest};
 ghost use Rattle.rules.specs.Call.{ask, off, reserve, until, normal, high};
 ghost use Rattle.writer.specs.Write.{putAnswer, putBuffer, putRow};
+ghost use Rattle.plan.specs.Tables.{planOf};
 ghost use Rattle.plan.specs.Reading.{reading, leaves};
 ghost use Rattle.cells.specs.Fresh.{freshCells};
 ghost use Rattle.cells.specs.Calls.{EventPromise, stepBy, stepAnswer};
@@ -50,6 +52,13 @@ pub extern "C" fn lembuya_read(text: &[u8], plan: &mut Plan, told: &mut [u64; 4]
             number as u32
         }
     }
+}
+
+#[no_mangle]
+pub extern "C" fn lembuya_longest(p: &Plan) -> u64
+    ensures { λ r. ⌜ r ≡ longest (planOf (now (p .entry))) ⌝ }
+{
+    header::longest(p[plan::FRAMING])
 }
 
 #[no_mangle]

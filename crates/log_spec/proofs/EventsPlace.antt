@@ -3,17 +3,18 @@
 use Prim.Native.Nat.{ℕ, _+_, _≤_, _<_}
 use mathlib.Core.Path.{_≡_, sym, ap, _∙_}
 use mathlib.Core.List.{List, [], _∷_}
+use mathlib.Core.Option.{Option, none, some}
 use native.Mathlib.Omega.{arith}
 use lib.ListN.{length, length-append}
 use Rattle.text.specs.Line.{Lines, ended, lines, drawLines}
 use Rattle.text.specs.Form.{drawForm}
 use Rattle.text.specs.declared.Cursor.{Cursor}
 use Rattle.text.proofs.Lines.{draw-lines}
-use Rattle.plan.specs.Words.{frame-word, overhead-word, interrupt-word}
+use Rattle.plan.specs.Words.{frame-word, overhead-word, interrupt-word, framing-word}
 use Rattle.plan_tree.specs.Kind.{close-word, node-word, empty-word, hub-word}
-use Rattle.plan.specs.Reading.{Figures, next}
-use Rattle.plan_theory.specs.Tree.{Port, node, empty, hub, Hub, close, port, drawPort, drawHub, draw}
-use Rattle.plan_theory.specs.Behind.{pastPort, pastHub, pastFigures, past}
+use Rattle.plan.specs.Reading.{next}
+use Rattle.plan_theory.specs.Tree.{Port, node, empty, hub, Hub, close, port, drawPort, drawHub, Header, oneNumber, drawOptional, draw}
+use Rattle.plan_theory.specs.Behind.{pastPort, pastHub, pastOptional, pastInterrupt, pastFigures, past}
 use Rattle.plan_theory.specs.Taken.{TakenAs}
 use Rattle.plan_theory.proofs.Tree.TakenDrawn.{taken-drawn}
 use Rattle.plan_theory.proofs.Tree.Taken.{taken-of}
@@ -48,15 +49,25 @@ pub record Placed (text : List ℕ) (at line : ℕ) : Type 0 where
   pub inside : at ≤ length text
   pub early : line ≤ at + 1
 
--- three figures and the root's line come before the root's ports
-draw-placed : (text : List ℕ) (fig : Figures) (h : Hub) (rest : Lines) → lines text ≡ draw fig h rest → Placed text (past fig h .at) (past fig h .number)
-unfolding draw past pastFigures
+-- a line that may be missing, and then what leads on from behind it
+over-optional : {N : Type 0} (word : List ℕ) (numbers : N → List ℕ) (o : Option N) (c d : Cursor) (ls rest : Lines)
+    → Onward (pastOptional word numbers o c) d ls rest → Onward c d (drawOptional word numbers o ls) rest
+over-optional word numbers none c d ls rest h = h
+over-optional word numbers (some x) c d ls rest h = and-on (over-line c (drawForm word (numbers x)) ls) h
+
+-- the header's lines and the root's come before the root's ports
+draw-placed : (text : List ℕ) (fig : Header) (h : Hub) (rest : Lines) → lines text ≡ draw fig h rest → Placed text (past fig h .at) (past fig h .number)
+unfolding draw past pastFigures pastInterrupt
 draw-placed text fig h rest e =
     let c₀ : Cursor = record { at = 0; number = 1 } in
     let c₁ : Cursor = next c₀ (drawForm frame-word (fig .frame ∷ [])) in
     let c₂ : Cursor = next c₁ (drawForm overhead-word (fig .overhead ∷ [])) in
     let c₃ : Cursor = next c₂ (drawForm interrupt-word (fig .interrupt ∷ [])) in
-    let root = and-on (over-line c₃ hub-word (drawHub h rest)) (over-hub h (next c₃ hub-word) rest) in
+    let c₄ : Cursor = pastOptional framing-word oneNumber (fig .framing) c₃ in
+    let root =
+    over-optional framing-word oneNumber (fig .framing) c₃ (past fig h) (ended hub-word (drawHub h rest)) rest
+    (and-on (over-line c₄ hub-word (drawHub h rest)) (over-hub h (next c₄ hub-word) rest))
+    in
     let all : Onward c₀ (past fig h) (draw fig h rest) rest = and-on (over-line c₀ _ _) (and-on (over-line c₁ _ _) (and-on (over-line c₂ _ _) root)) in
     let whole : length text ≡ length (drawLines (draw fig h rest)) = ap length (sym (draw-lines text) ∙ ap drawLines e) in
     record { some = omega arith; inside = omega arith; early = omega arith }

@@ -14,6 +14,7 @@ use Rattle.rules.specs.Machine.{Hub, Outcome, restful, grantTo, perform}
 use Rattle.rules.specs.Control.{Control, control}
 use Rattle.rules.specs.Run.{made}
 use Rattle.rules.specs.Promises.{Acceptable, asks, leaves, reserves, waits}
+use Rattle.rules.proofs.Laws.Lengths.{longest-up}
 use Rattle.rules.proofs.Core.RowsPassed.{InTime}
 use Rattle.rules.proofs.Core.RefusalNumbers.{row-number}
 use Rattle.rules.proofs.Core.Acceptance.{acceptable}
@@ -58,7 +59,7 @@ module _ (p : Plan) (drawn : Drawn p) (calls : List Call) where
 
   module _ (t d : ℕ) (i : InTime (here .core) t) (e : due p (here .core) ≡ at d) (l : d < t) where
     -- a grant with its line takes no more than was aside: s is below 10^15, k
-    -- at most 256, end at most s + 12,000 + 50,000, moves at most 4 × 4
+    -- at most 256, end at most s + the longest packet + 50,000, moves at most 4 × 4
     module _ (c : Class) (n : sought p (come d) ≡ class c) where
       abbrev granted : Outcome Control
       granted = grantTo p (control p) d c (come d) (control p .choose c (countsIn c (come d)) (here .turn))
@@ -79,7 +80,7 @@ module _ (p : Plan) (drawn : Drawn p) (calls : List Call) where
             grant-length d k c (d + bitsOf (come d .request k) + p .overhead) (control p .choose c f (here .turn) .moves)
                 (omega (arith, i .soon))
                 (omega (arith, turn .within .up, drawn .few-nodes))
-                (omega (arith, i .soon, drawn .figures .overhead-up))
+                (omega (arith, i .soon, drawn .figures .overhead-up, longest-up (p .framing)))
                 (omega (arith, levels-up p drawn)),
             one-fewer p (come d) k (turn .within) c (stood .0) (stood .1),
             advance-stands p d (here .core),

@@ -1,14 +1,14 @@
 -- What a refused plan's answer names: a line that 64 bits can count, and a
--- row of 1 to 3. So its line in the log is short, whatever the text is.
+-- row of 1 to 4. So its line in the log is short, whatever the text is.
 use Prim.Native.Nat.{ℕ, _+_, _<_, _^_}
-use mathlib.Core.Bool.{Bool, true, false, _&&_}
+use mathlib.Core.Bool.{Bool, true, false, _&&_, _||_, not}
 use mathlib.Core.List.{List, [], _∷_}
 use mathlib.Core.Option.{Option, none, some}
 use native.Mathlib.Omega.{arith}
-use lib.Dec.{eqb, leb}
+use lib.Dec.{eqb, leb, ltb}
 use lib.ListN.{getD}
 use Rattle.rules.specs.Choice.{if_then_else_}
-use Rattle.rules.specs.Plan.{longest-packet}
+use Rattle.rules.specs.Plan.{longestIn}
 use Rattle.text.specs.Line.{Lines, nothing, unended, ended, lines}
 use Rattle.text.specs.Form.{readForm}
 use Rattle.text.specs.declared.Cursor.{Cursor}
@@ -17,8 +17,9 @@ use Rattle.plan_tree.specs.declared.Kind.the-variants.{Close, Node, Empty, Hub,
 use Rattle.plan.specs.declared.Answer.{Answer}
 use Rattle.plan.specs.declared.Answer.the-variants.{Taken, Refused}
 use Rattle.plan_tree.specs.Kind.{kindOf, isHub}
-use Rattle.plan.specs.Words.{frame-word, overhead-word, interrupt-word}
-use Rattle.plan.specs.Reading.{Read, refusal, next, onLine, Open, Progress, Figures, passes, addNode, addEmpty, openHub, closeHub, closed, byKind, hubLines, begun, rootLine, figure, interruptLine, overheadLine, frameLine, reading}
+use Rattle.plan.specs.Words.{frame-word, overhead-word, interrupt-word, framing-word}
+use Rattle.plan.specs.Tables.{Figures}
+use Rattle.plan.specs.Reading.{Read, refusal, next, onLine, Open, Progress, passes, addNode, addEmpty, openHub, closeHub, closed, byKind, hubLines, begun, rootLine, figure, optional, whereForm, unlessRow, framingRow, framingLine, interruptLine, overheadLine, frameLine, reading}
 
 abbrev pub Named : Answer → Type 0
 Named (Taken nodes hubs at line) = Unit {0}
@@ -52,6 +53,24 @@ module _ (c : Cursor) (counted : Counted c) where
       go true = h (getD ns 0 0)
       go false = says 2 (omega arith)
 
+  unless-names : (number : ℕ) (r : Read) → number < 10 → Names r → Names (unlessRow number c r)
+  unless-names number r f h = go (eqb number 0)
+    where
+      go : (b : Bool) → Names (if b then r else refusal c number)
+      go true = h
+      go false = says number f
+
+  -- a line that may be missing, where what follows names its lines well, with it and without it
+  optional-names : (word : List ℕ) (count : ℕ) (ls : Lines) (reads : List ℕ → Lines → ℕ → Read) (absent : Read)
+      → ((l : List ℕ) (rest : Lines) (x : ℕ) → Names (reads l rest x)) → Names absent → Names (optional word count ls reads absent)
+  optional-names word count nothing reads absent h a = a
+  optional-names word count (unended l) reads absent h a = a
+  optional-names word count (ended l rest) reads absent h a = go (readForm word count l)
+    where
+      go : (o : Option (List ℕ)) → Names (whereForm o (reads l rest) absent)
+      go none = a
+      go (some ns) = h l rest (getD ns 0 0)
+
   -- a line of a hub form, where what follows names its lines well
   module _ (fig : Figures) (l : List ℕ) (more : Progress → Read) (again : (s : Progress) → Names (more s)) (s : Progress) where
     closed-names : (os : List Open) → Names (closed fig os more c l s)
@@ -84,7 +103,7 @@ module _ (fig : Figures) where
 
 -- every answer to a text
 pub answer-named : (text : List ℕ) → Named (reading text .answer)
-unfolding reading frameLine overheadLine interruptLine
+unfolding reading frameLine overheadLine interruptLine framingLine
 answer-named text =
     line-names c₀ (omega arith) (lines text) _
     (λ l ls. figure-names c₀ (omega arith) (readForm frame-word 1 l) 100000 4000000 _ (λ T. overhead-names T ls (next c₀ l) (omega arith)))
@@ -92,10 +111,24 @@ answer-named text =
     c₀ : Cursor
     c₀ = record { at = 0; number = 1 }
 
+    row-small : (O D framing : ℕ) → framingRow O D framing < 10
+    row-small O D framing = go (eqb framing 3 || eqb framing 5) (ltb D (longestIn framing + O))
+      where
+        go : (a b : Bool) → (if not a then 4 else (if b then 2 else 0)) < 10
+        go false b = omega arith
+        go true true = omega arith
+        go true false = omega arith
+
+    framing-names : (T O D : ℕ) (ls : Lines) (c : Cursor) → Counted c → Names (framingLine T O D ls c)
+    framing-names T O D ls c h =
+        optional-names c h framing-word 1 ls _ _
+        (λ l rest framing. unless-names c h (framingRow O D framing) _ (row-small O D framing) (root-names _ rest (next c l) (omega arith)))
+        (root-names _ ls c h)
+
     interrupt-names : (T O : ℕ) (ls : Lines) (c : Cursor) → Counted c → Names (interruptLine T O ls c)
     interrupt-names T O ls c h =
         line-names c h ls _
-        (λ l rest. figure-names c h (readForm interrupt-word 1 l) (longest-packet + O) T _ (λ D. root-names _ rest (next c l) (omega arith)))
+        (λ l rest. figure-names c h (readForm interrupt-word 1 l) (longestIn 3 + O) T _ (λ D. framing-names T O D rest (next c l) (omega arith)))
 
     overhead-names : (T : ℕ) (ls : Lines) (c : Cursor) → Counted c → Names (overheadLine T ls c)
     overhead-names T ls c h =

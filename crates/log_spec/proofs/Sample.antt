@@ -10,7 +10,7 @@ use Rattle.writer.specs.Write.{drawLine}
 use Rattle.plan_tree.specs.Kind.{kindOf}
 use Rattle.plan_tree.specs.Tables.{putEmpty, putNode, putHub, putPorts, putRoot}
 use Rattle.plan.specs.Tables.{putFigures, planOf}
-use Rattle.plan.specs.Reading.{hubLines, rootLine, interruptLine, overheadLine, frameLine, reading}
+use Rattle.plan.specs.Reading.{hubLines, rootLine, framingLine, interruptLine, overheadLine, frameLine, reading}
 use Rattle.rules.specs.Choice.{any, sum, first}
 use Rattle.rules.specs.Core.{advance, countsIn, counts, held, due, sought}
 use Rattle.rules.specs.Control.{below, lowest, walk, led, nearest, chooseBy}
@@ -37,7 +37,7 @@ pub example : flatten (logOf (textOf (figures01 ++ tree01 ++ events01))) ≡ tex
 unfolding
     flatten bytes textOf handed
     before lines digitRun keepDigit wellFormed valueFrom readRun readNumber startsWith isWord andThen readSpaced readClose readNumbers readBehind readForm formOf
-    kindOf reading frameLine overheadLine interruptLine rootLine hubLines putRoot putNode putEmpty putHub putPorts putFigures planOf
+    kindOf reading frameLine overheadLine interruptLine framingLine rootLine hubLines putRoot putNode putEmpty putHub putPorts putFigures planOf
     any sum first advance countsIn counts held due sought below lowest walk led nearest chooseBy perform
     eventOf steps stepsBefore eventLog eventsLog planLog logOf
     digitsBy digits drawNumbers drawForm drawLine nodesHead nodesLine refusedLine grantLine restLine answerLine

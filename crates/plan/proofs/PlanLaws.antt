@@ -1,99 +1,30 @@
--- The figures, the root's line and the whole hub, by what each call found. The code's proofs cite these, a case each.
+-- The header's lines and the whole hub, by what each call found. The code's proofs cite these, a case each.
 use Prim.Native.Nat.{ℕ, _+_, _-_, _^_, _<_, _≤_}
 use mathlib.Core.Path.{_≡_, refl, sym, ap, _∙_}
-use mathlib.Core.Bool.{Bool, true, false, _&&_}
+use mathlib.Core.Bool.{Bool, true, false, _||_, false≢true}
 use native.Mathlib.Omega.{arith}
 use mathlib.Core.List.{List, [], _∷_}
-use lib.Dec.{leb}
-use borrow.Author.Tests.{le-leb, lt-leb, eq-eqb, ne-eqb, leb-true}
+use lib.Dec.{eqb}
+use borrow.Author.Tests.{eq-eqb, ne-eqb, eqb-true, lt-ltb, le-ltb}
 use Rattle.rules.specs.Choice.{if_then_else_}
-use Rattle.rules.proofs.Laws.Passes.{Which, which, yes′, no′, and-both}
-use Rattle.rules.proofs.Laws.Clash.{clash}
-use Rattle.text.specs.Line.{nextLine}
-use Rattle.text.specs.Part.{part}
-use Rattle.text.specs.Form.{formAt}
+use Rattle.rules.specs.Plan.{longestIn}
 use Rattle.text.specs.declared.Cursor.{Cursor}
-use Rattle.text.specs.declared.Next.{Next}
-use Rattle.text.specs.declared.Next.the-variants.{Line, Unended, Done}
-use Rattle.text.specs.declared.Form.{Form}
-use Rattle.text.specs.declared.Form.the-variants.{Numbers, NoForm}
-use Rattle.plan_tree.specs.declared.Kind.{Kind}
-use Rattle.plan_tree.specs.declared.Kind.the-variants.{Hub}
-use Rattle.plan.specs.declared.Figure.{Figure}
-use Rattle.plan.specs.declared.Figure.the-variants.{Got, Not}
+use Rattle.header.specs.declared.Figure.the-variants.{Got, Not}
+use Rattle.header.specs.declared.Optional.the-variants.{Says, Absent}
+use Rattle.header.specs.Lines.{figureAt, optionalAt, rootAt}
 use Rattle.plan_tree.specs.declared.Place.{Place}
 use Rattle.plan_tree.specs.declared.Part.{Part}
 use Rattle.plan_tree.specs.declared.Part.the-variants.{Read, Stopped}
 use Rattle.plan.specs.declared.Answer.the-variants.{Taken, Refused}
-use Rattle.plan_tree.specs.Kind.{kindOf, isHub}
-use Rattle.plan.specs.Words.{frame-word, overhead-word, interrupt-word}
+use Rattle.plan.specs.Words.{frame-word, overhead-word, interrupt-word, framing-word}
 use lib.ListN.{length}
 use Rattle.plan.proofs.Reading.PlanBy.{plan-agrees}
 use Rattle.plan_tree.specs.Tables.{noTable}
-use Rattle.plan.specs.Tables.{putFigures}
-use Rattle.plan.specs.Reading.{Figures}
+use Rattle.plan.specs.Tables.{Figures, putFigures}
+use Rattle.plan.specs.Reading.{framingRow}
 use Rattle.plan.specs.Reading as reading
 use Rattle.plan_tree.specs.Readers.{Answered, rootReader}
-use Rattle.plan.specs.PlanReader.{inRange, figureAt, figureOf, figureIn, rootAt, hubAt, interruptAt, overheadAt, planBy, refused, planOver, behindRoot}
-
-module _ (text : List ℕ) (c : Cursor) where
-  module _ (word : List ℕ) (low high : ℕ) where
-    pub figure-unended : (start end number : ℕ) → nextLine text c ≡ Unended start end number → Not number 1 ≡ figureAt text c word low high
-    unfolding figureAt
-    figure-unended start end number e = rw e
-
-    pub figure-done : (number : ℕ) → nextLine text c ≡ Done number → Not number 1 ≡ figureAt text c word low high
-    unfolding figureAt
-    figure-done number e = rw e
-
-    module _ (start end number : ℕ) (next : Cursor) (line : nextLine text c ≡ Line start end number next) where
-      pub figure-none : formAt text start end word 1 ≡ NoForm → Not number 1 ≡ figureAt text c word low high
-      unfolding figureAt
-      figure-none f = rw (line, f)
-
-      pub figure-numbers : (x a b d : ℕ) → formAt text start end word 1 ≡ Numbers x a b d → inRange x low high number next ≡ figureAt text c word low high
-      unfolding figureAt
-      figure-numbers x a b d form = rw (line, form)
-
-  -- a figure that was read is in its range
-  pub figure-range : (word : List ℕ) (low high x : ℕ) (next : Cursor) → figureAt text c word low high ≡ Got x next → (low ≤ x) × (x ≤ high)
-  unfolding figureAt
-  figure-range word low high x next e = by-line (nextLine text c) e
-    where
-      by-form : (form : Form) (n : ℕ) (after : Cursor) → figureOf form n after low high ≡ Got x next → (low ≤ x) × (x ≤ high)
-      by-form (Numbers y a b d) n after g = by-test (which (leb low y && leb y high))
-        where
-          by-test : Which (leb low y && leb y high) → (low ≤ x) × (x ≤ high)
-          by-test (yes′ t) =
-              let same : y ≡ x = let h = simp t at g in cc in
-              let both = and-both (leb low y) (leb y high) t in
-              let l = leb-true low y (both .0) in
-              let u = leb-true y high (both .1) in
-              (omega arith, omega arith)
-          by-test (no′ t) = let h = simp t at g in clash (cc)
-      by-form NoForm n after g = clash (cc)
-
-      by-line : (line : Next) → figureIn text line word low high ≡ Got x next → (low ≤ x) × (x ≤ high)
-      by-line (Line start end number after) g = by-form (formAt text start end word 1) number after g
-      by-line (Unended start end number) g = clash (cc)
-      by-line (Done number) g = clash (cc)
-
-  pub root-unended : (start end number : ℕ) → nextLine text c ≡ Unended start end number → Stopped number 1 ≡ rootAt text c
-  unfolding rootAt
-  root-unended start end number e = rw e
-
-  pub root-done : (number : ℕ) → nextLine text c ≡ Done number → Stopped number 1 ≡ rootAt text c
-  unfolding rootAt
-  root-done number e = rw e
-
-  module _ (start end number : ℕ) (next : Cursor) (line : nextLine text c ≡ Line start end number next) where
-    pub root-hub : kindOf (part text start end) ≡ Hub → Read (record { at = next .at; number = next .number; nodes = 0; hubs = 1 }) ≡ rootAt text c
-    unfolding rootAt
-    root-hub k = rw (line, k)
-
-    pub root-other : (kind : Kind) → kindOf (part text start end) ≡ kind → isHub kind ≡ false → Stopped number 1 ≡ rootAt text c
-    unfolding rootAt
-    root-other kind k h = rw (line, k, h)
+use Rattle.plan.specs.PlanReader.{hubAt, framingAt, interruptAt, overheadAt, planBy, refused, planOver, behindRoot}
 
 -- the plan behind its figures, by what the root's line and the hub reader gave
 module _ (text : List ℕ) (left : ℕ) (fig : Figures) (c : Cursor) where
@@ -117,18 +48,60 @@ module _ (text : List ℕ) (left : ℕ) (fig : Figures) (c : Cursor) where
         → hubAt text left fig c
         ≡ (record {
           answer = Taken (y .nodes) (y .hubs) (y .at) (y .number);
-          tables = putFigures (fig .frame) (fig .overhead) (fig .interrupt) (y .nodes) (y .hubs) (hub-done .tables);
+          tables = putFigures fig (y .nodes) (y .hubs) (hub-done .tables);
         })
     hub-taken y e h = over ∙ rw (e, planOver) (rw (ne-eqb (y .nodes) 0 h))
 
+-- the rows of a framing, by the tests that lead to each
+module _ (O D framing : ℕ) where
+  pub row-unknown : (eqb framing 3 || eqb framing 5) ≡ false → 4 ≡ framingRow O D framing
+  row-unknown e = rw e
+
+  module _ (known : (eqb framing 3 || eqb framing 5) ≡ true) where
+    pub row-short : D < longestIn framing + O → 2 ≡ framingRow O D framing
+    row-short h = rw (known, lt-ltb D (longestIn framing + O) h)
+
+    pub row-none : longestIn framing + O ≤ D → 0 ≡ framingRow O D framing
+    row-none h = rw (known, le-ltb D (longestIn framing + O) h)
+
+-- a framing is a small number
+pub known-small : (framing : ℕ) → (eqb framing 3 || eqb framing 5) ≡ true → framing ≤ 5
+known-small framing e = go (eqb framing 3) (eqb framing 5) refl refl e
+  where
+    go : (a b : Bool) → eqb framing 3 ≡ a → eqb framing 5 ≡ b → (a || b) ≡ true → framing ≤ 5
+    go true b f g h = omega (arith, eqb-true framing 3 f)
+    go false true f g h = omega (arith, eqb-true framing 5 g)
+    go false false f g h = absurd (false≢true h)
+
+pub framing-small : (O D framing : ℕ) → framingRow O D framing ≡ 0 → framing ≤ 5
+framing-small O D framing e = go (eqb framing 3 || eqb framing 5) refl
+  where
+    go : (b : Bool) → (eqb framing 3 || eqb framing 5) ≡ b → framing ≤ 5
+    go true f = known-small framing f
+    go false f = let h : _≡_ {A = ℕ} 4 0 = row-unknown O D framing f ∙ e in absurd (omega arith)
+
 -- behind a figure, by what it is
 module _ (text : List ℕ) (left : ℕ) where
+  module _ (T O D : ℕ) (c : Cursor) where
+    pub framing-absent : optionalAt text c framing-word 1 ≡ Absent
+        → framingAt text left T O D c ≡ hubAt text left (record { frame = T; overhead = O; interrupt = D; framing = 3 }) c
+    framing-absent e = rw e
+
+    module _ (framing : ℕ) (next : Cursor) (says : optionalAt text c framing-word 1 ≡ Says framing next) where
+      pub framing-not : (framingRow O D framing ≡ 0 → ⊥) → framingAt text left T O D c ≡ refused (c .number) (framingRow O D framing)
+      framing-not n = rw says (rw (ne-eqb (framingRow O D framing) 0 n))
+
+      pub framing-got : framingRow O D framing ≡ 0
+          → framingAt text left T O D c ≡ hubAt text left (record { frame = T; overhead = O; interrupt = D; framing = framing }) next
+      framing-got z = rw says (rw (eq-eqb (framingRow O D framing) 0 z))
+
   module _ (T O : ℕ) (c : Cursor) where
-    pub interrupt-not : (line number : ℕ) → figureAt text c interrupt-word (12000 + O) T ≡ Not line number → interruptAt text left T O c ≡ refused line number
+    pub interrupt-not : (line number : ℕ) → figureAt text c interrupt-word (longestIn 3 + O) T ≡ Not line number
+        → interruptAt text left T O c ≡ refused line number
     interrupt-not line number e = rw e
 
-    pub interrupt-got : (D : ℕ) (next : Cursor) → figureAt text c interrupt-word (12000 + O) T ≡ Got D next
-        → interruptAt text left T O c ≡ hubAt text left (record { frame = T; overhead = O; interrupt = D }) next
+    pub interrupt-got : (D : ℕ) (next : Cursor) → figureAt text c interrupt-word (longestIn 3 + O) T ≡ Got D next
+        → interruptAt text left T O c ≡ framingAt text left T O D next
     interrupt-got D next e = rw e
 
   module _ (T : ℕ) (c : Cursor) where

@@ -1,66 +1,30 @@
--- The whole plan by the scanner: the three figures and the root's `(hub` at
+-- The whole plan by the scanner: the header's lines and the root's `(hub` at
 -- cursors, then the hub reader. It reads what `reading` of Reading reads;
 -- that is proved in proofs/.
 use Prim.Native.Nat.{ℕ, _+_, _-_}
-use mathlib.Core.Bool.{_&&_}
 use mathlib.Core.List.{List, []}
-use lib.Dec.{eqb, leb}
+use lib.Dec.{eqb}
 use Rattle.rules.specs.Choice.{if_then_else_}
-use Rattle.rules.specs.Plan.{longest-packet}
-use Rattle.text.specs.Line.{nextLine}
-use Rattle.text.specs.Part.{part}
-use Rattle.text.specs.Form.{formAt}
+use Rattle.rules.specs.Plan.{longestIn}
 use Rattle.text.specs.declared.Cursor.{Cursor}
-use Rattle.text.specs.declared.Next.{Next}
-use Rattle.text.specs.declared.Next.the-variants.{Line, Unended, Done}
-use Rattle.text.specs.declared.Form.{Form}
-use Rattle.text.specs.declared.Form.the-variants.{Numbers, NoForm}
 use Rattle.plan.specs.declared.Answer.the-variants.{Taken, Refused}
-use Rattle.plan.specs.declared.Figure.{Figure}
-use Rattle.plan.specs.declared.Figure.the-variants.{Got, Not}
+use Rattle.header.specs.declared.Figure.{Figure}
+use Rattle.header.specs.declared.Figure.the-variants.{Got, Not}
+use Rattle.header.specs.declared.Optional.{Optional}
+use Rattle.header.specs.declared.Optional.the-variants.{Says, Absent}
+use Rattle.header.specs.Lines.{figureAt, optionalAt, rootAt}
 use Rattle.plan_tree.specs.declared.Place.{Place}
 use Rattle.plan_tree.specs.declared.Part.{Part}
 use Rattle.plan_tree.specs.declared.Part.the-variants.{Read, Stopped}
-use Rattle.plan_tree.specs.Kind.{kindOf, isHub}
-use Rattle.plan.specs.Words.{frame-word, overhead-word, interrupt-word}
+use Rattle.plan.specs.Words.{frame-word, overhead-word, interrupt-word, framing-word}
 use Rattle.plan_tree.specs.Tables.{noTable}
-use Rattle.plan.specs.Tables.{putFigures}
-use Rattle.plan.specs.Reading.{Figures}
+use Rattle.plan.specs.Tables.{Figures, putFigures}
+use Rattle.plan.specs.Reading.{unlessRow, framingRow}
 use Rattle.plan.specs.Reading as reading
 use Rattle.plan_tree.specs.Readers.{Answered, stop, rootReader}
 
 abbrev pub refused : ℕ → ℕ → reading.Read
 refused line number = record { answer = Refused line number; tables = [] }
-
--- a figure's range, 2
-abbrev pub inRange : ℕ → ℕ → ℕ → ℕ → Cursor → Figure
-inRange x low high line next = if leb low x && leb x high then Got x next else Not line 2
-
--- a figure's form, then its range
-abbrev pub figureOf : Form → ℕ → Cursor → ℕ → ℕ → Figure
-figureOf (Numbers x b c d) line next low high = inRange x low high line next
-figureOf NoForm line next low high = Not line 1
-
-abbrev pub figureIn : List ℕ → Next → List ℕ → ℕ → ℕ → Figure
-figureIn text (Line start end number next) word low high = figureOf (formAt text start end word 1) number next low high
-figureIn text (Unended start end number) word low high = Not number 1
-figureIn text (Done number) word low high = Not number 1
-
--- the figure of this word, from low to high, at a cursor
-unfoldable pub figureAt : List ℕ → Cursor → List ℕ → ℕ → ℕ → Figure
-figureAt text c word low high = figureIn text (nextLine text c) word low high
-
--- behind the root's `(hub` there is no node yet, and one hub
-abbrev pub rootIn : List ℕ → Next → Part
-rootIn text (Line start end number next) =
-    if isHub (kindOf (part text start end)) then Read (record { at = next .at; number = next .number; nodes = 0; hubs = 1 })
-    else Stopped number 1
-rootIn text (Unended start end number) = Stopped number 1
-rootIn text (Done number) = Stopped number 1
-
--- the root's `(hub` at a cursor
-unfoldable pub rootAt : List ℕ → Cursor → Part
-rootAt text c = rootIn text (nextLine text c)
 
 -- the root was read up to a place: without a node its last line, the one before that place, is refused
 abbrev pub planOver : Figures → Answered → reading.Read
@@ -71,7 +35,7 @@ planOver fig d =
           else
           (record {
             answer = Taken (y .nodes) (y .hubs) (y .at) (y .number);
-            tables = putFigures (fig .frame) (fig .overhead) (fig .interrupt) (y .nodes) (y .hubs) (d .tables);
+            tables = putFigures fig (y .nodes) (y .hubs) (d .tables);
           })
       | Stopped line number ↦ refused line number
     ]
@@ -79,6 +43,10 @@ planOver fig d =
 abbrev pub behindFigure : Figure → (ℕ → Cursor → reading.Read) → reading.Read
 behindFigure (Got x next) more = more x next
 behindFigure (Not line number) more = refused line number
+
+abbrev pub behindOptional : Optional → (ℕ → Cursor → reading.Read) → reading.Read → reading.Read
+behindOptional (Says x next) says absent = says x next
+behindOptional Absent says absent = absent
 
 abbrev pub behindRoot : Part → (Place → Answered) → Answered
 behindRoot (Read x) more = more x
@@ -89,10 +57,16 @@ module _ (text : List ℕ) (left : ℕ) where
   abbrev pub hubAt : Figures → Cursor → reading.Read
   hubAt fig c = planOver fig (behindRoot (rootAt text c) (λ x. rootReader text left x noTable))
 
+  abbrev pub framingAt : ℕ → ℕ → ℕ → Cursor → reading.Read
+  framingAt T O D c =
+      behindOptional (optionalAt text c framing-word 1)
+      (λ framing next.
+      unlessRow (framingRow O D framing) c
+      (hubAt (record { frame = T; overhead = O; interrupt = D; framing = framing }) next))
+      (hubAt (record { frame = T; overhead = O; interrupt = D; framing = 3 }) c)
+
   abbrev pub interruptAt : ℕ → ℕ → Cursor → reading.Read
-  interruptAt T O c =
-      behindFigure (figureAt text c interrupt-word (longest-packet + O) T)
-      (λ D next. hubAt (record { frame = T; overhead = O; interrupt = D }) next)
+  interruptAt T O c = behindFigure (figureAt text c interrupt-word (longestIn 3 + O) T) (λ D next. framingAt T O D next)
 
   abbrev pub overheadAt : ℕ → Cursor → reading.Read
   overheadAt T c = behindFigure (figureAt text c overhead-word 0 50000) (λ O next. interruptAt T O next)

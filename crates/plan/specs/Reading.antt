@@ -1,12 +1,12 @@
--- A plan is read line by line: the first line from above, then the first row, decides. Rows 1, 2 and 3 of the table.
+-- A plan is read line by line: the first line from above, then the first row, decides. Rows 1 to 4 of the table.
 use Prim.Native.Nat.{ℕ, _+_}
-use mathlib.Core.Bool.{Bool, true, false, _&&_, _||_}
+use mathlib.Core.Bool.{Bool, true, false, _&&_, _||_, not}
 use mathlib.Core.List.{List, [], _∷_}
 use mathlib.Core.Option.{Option, none, some}
 use lib.Dec.{eqb, leb, ltb}
 use lib.ListN.{length, getD}
 use Rattle.rules.specs.Choice.{if_then_else_}
-use Rattle.rules.specs.Plan.{longest-packet, most-hubs, most-ports, most-nodes, most-levels}
+use Rattle.rules.specs.Plan.{longestIn, most-hubs, most-ports, most-nodes, most-levels}
 use Rattle.text.specs.Line.{Lines, nothing, unended, ended, lines, nextNumber}
 use Rattle.text.specs.Form.{readForm}
 use Rattle.text.specs.declared.Cursor.{Cursor}
@@ -15,9 +15,9 @@ use Rattle.plan_tree.specs.declared.Kind.the-variants.{Close, Node, Empty, Hub,
 use Rattle.plan.specs.declared.Answer.{Answer}
 use Rattle.plan.specs.declared.Answer.the-variants.{Taken, Refused}
 use Rattle.plan_tree.specs.Kind.{kindOf, isHub}
-use Rattle.plan.specs.Words.{frame-word, overhead-word, interrupt-word}
+use Rattle.plan.specs.Words.{frame-word, overhead-word, interrupt-word, framing-word}
 use Rattle.plan_tree.specs.Tables.{noTable, putEmpty, putNode, putHub, putPorts, putRoot}
-use Rattle.plan.specs.Tables.{putFigures}
+use Rattle.plan.specs.Tables.{Figures, putFigures}
 
 -- the answer, and the tables where the plan is taken
 pub record Read : Type 0 where
@@ -53,11 +53,6 @@ pub record Progress : Type 0 where
   pub nodes : ℕ
   pub hubs : ℕ
   pub tables : List ℕ
-
-pub record Figures : Type 0 where
-  pub frame : ℕ
-  pub overhead : ℕ
-  pub interrupt : ℕ
 
 -- one more port of the hub being read
 abbrev pub oneMore : Open → Open
@@ -123,7 +118,7 @@ closeRoot fig c l s =
     (record {
       answer = Taken (s .nodes) (s .hubs) (next c l .at) (next c l .number);
       tables =
-          putFigures (fig .frame) (fig .overhead) (fig .interrupt) (s .nodes) (s .hubs)
+          putFigures fig (s .nodes) (s .hubs)
           (putPorts (s .inner .hub) (s .inner .ports) (s .tables));
     })
 
@@ -164,13 +159,40 @@ figure (some ns) low high c more =
     let x = getD ns 0 0 in
     if leb low x && leb x high then more x else refusal c 2
 
--- D is 12,000 + O to T, 12,000 being the longest packet
+-- A line that may stand here or not: where it is the form of this word with so many numbers, `says` reads on with its
+-- number (0 where it has none); else the header goes on with the next line's form at this line.
+abbrev pub whereForm : Option (List ℕ) → (ℕ → Read) → Read → Read
+whereForm none says absent = absent
+whereForm (some ns) says absent = says (getD ns 0 0)
+
+abbrev pub optional : List ℕ → ℕ → Lines → (List ℕ → Lines → ℕ → Read) → Read → Read
+optional word count nothing says absent = absent
+optional word count (unended l) says absent = absent
+optional word count (ended l rest) says absent = whereForm (readForm word count l) (says l rest) absent
+
+-- the line at c is refused by the row of this number; with 0 none refuses it, and `more` is what is read
+abbrev pub unlessRow : ℕ → Cursor → Read → Read
+unlessRow number c more = if eqb number 0 then more else refusal c number
+
+-- 4: the framing is neither 3 nor 5; then 2: D is too small for it
+abbrev pub framingRow : ℕ → ℕ → ℕ → ℕ
+framingRow O D framing =
+    if not (eqb framing 3 || eqb framing 5) then 4
+    else (if ltb D (longestIn framing + O) then 2 else 0)
+
+-- the framing's line, or without it framing 3
+unfoldable pub framingLine : ℕ → ℕ → ℕ → Lines → Cursor → Read
+framingLine T O D ls c =
+    optional framing-word 1 ls
+    (λ l rest framing.
+    unlessRow (framingRow O D framing) c
+    (rootLine (record { frame = T; overhead = O; interrupt = D; framing = framing }) rest (next c l)))
+    (rootLine (record { frame = T; overhead = O; interrupt = D; framing = 3 }) ls c)
+
+-- D is 12,000 + O to T, 12,000 being the longest packet of framing 3
 unfoldable pub interruptLine : ℕ → ℕ → Lines → Cursor → Read
 interruptLine T O ls c =
-    onLine ls c
-    (λ l rest.
-    figure (readForm interrupt-word 1 l) (longest-packet + O) T c
-    (λ D. rootLine (record { frame = T; overhead = O; interrupt = D }) rest (next c l)))
+    onLine ls c (λ l rest. figure (readForm interrupt-word 1 l) (longestIn 3 + O) T c (λ D. framingLine T O D rest (next c l)))
 
 -- O is 0 to 50,000
 unfoldable pub overheadLine : ℕ → Lines → Cursor → Read

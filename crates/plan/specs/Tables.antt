@@ -5,7 +5,7 @@ use lib.ListN.{getD, set}
 use Rattle.rules.specs.Plan as rules
 use Rattle.plan_tree.specs.Tables.{portsCell, parentCell, placeCell, levelCell, portCell, portOf}
 
--- T, O, D, N and H; cells 5 to 7 are kept for later figures
+-- T, O, D, N, H and the framing; cells 6 and 7 are kept for later figures
 abbrev pub frame-cell : ℕ
 frame-cell = 0
 
@@ -21,9 +21,22 @@ nodes-cell = 3
 abbrev pub hubs-cell : ℕ
 hubs-cell = 4
 
-unfoldable pub putFigures : ℕ → ℕ → ℕ → ℕ → ℕ → List ℕ → List ℕ
-putFigures T O D nodes hubs s =
-    set (set (set (set (set s frame-cell T) overhead-cell O) interrupt-cell D) nodes-cell nodes) hubs-cell hubs
+abbrev pub framing-cell : ℕ
+framing-cell = 5
+
+-- what the header's lines say
+pub record Figures : Type 0 where
+  pub frame : ℕ
+  pub overhead : ℕ
+  pub interrupt : ℕ
+  pub framing : ℕ
+
+unfoldable pub putFigures : Figures → ℕ → ℕ → List ℕ → List ℕ
+putFigures fig nodes hubs s =
+    set
+    (set (set (set (set (set s frame-cell (fig .frame)) overhead-cell (fig .overhead)) interrupt-cell (fig .interrupt)) nodes-cell nodes) hubs-cell hubs)
+    framing-cell
+    (fig .framing)
 
 -- the plan that the cells are
 unfoldable pub planOf : List ℕ → rules.Plan
@@ -32,6 +45,7 @@ planOf s =
       frame = getD s frame-cell 0;
       overhead = getD s overhead-cell 0;
       interrupt = getD s interrupt-cell 0;
+      framing = getD s framing-cell 0;
       nodes = getD s nodes-cell 0;
       hubs = getD s hubs-cell 0;
       ports = λ g. getD s (portsCell g) 0;

@@ -2,7 +2,7 @@
 use Prim.Native.Nat.{ℕ}
 use mathlib.Core.List.{List, [], _∷_}
 
--- `(frame`, `(overhead` and `(interrupt`, each before its number
+-- `(frame`, `(overhead`, `(interrupt` and `(framing`, each before its number
 abbrev pub frame-word : List ℕ
 frame-word = 40 ∷ 102 ∷ 114 ∷ 97 ∷ 109 ∷ 101 ∷ []
 
@@ -11,3 +11,6 @@ overhead-word = 40 ∷ 111 ∷ 118 ∷ 101 ∷ 114 ∷ 104 ∷ 101 ∷ 97 ∷ 10
 
 abbrev pub interrupt-word : List ℕ
 interrupt-word = 40 ∷ 105 ∷ 110 ∷ 116 ∷ 101 ∷ 114 ∷ 114 ∷ 117 ∷ 112 ∷ 116 ∷ []
+
+abbrev pub framing-word : List ℕ
+framing-word = 40 ∷ 102 ∷ 114 ∷ 97 ∷ 109 ∷ 105 ∷ 110 ∷ 103 ∷ []

@@ -5,6 +5,7 @@ use mathlib.Core.List.{List}
 use Rattle.rules.specs.Plan as rules
 use Rattle.rules.specs.Drawn.{Drawn, Within}
 use Rattle.plan.specs.Reading.{reading}
+use Rattle.plan_theory.specs.Tree.{figuresOf}
 use Rattle.plan_theory.specs.Taken.{TakenAs, OfTree, TakenPlan}
 use Rattle.plan_theory.proofs.Tree.TakenDrawn.{taken-drawn}
 use Rattle.plan_theory.proofs.Tree.Taken.{taken-of}
@@ -16,9 +17,9 @@ taken-plan text nodes hubs at line t =
     let o = taken-of text nodes hubs at line t d in
     subst (λ (cells : List ℕ). TakenPlan cells nodes hubs) (sym (o .sameTables))
     (record {
-      plan = drawn (d .fig) (d .tree) (d .good) (d .within);
-      nodes-told = nodes-are (d .fig) (d .tree) ∙ sym (o .sameNodes);
-      hubs-told = hubs-are (d .fig) (d .tree) ∙ sym (o .sameHubs);
-      node-port = node-stands (d .fig) (d .tree) (d .within);
-      one-port = node-only (d .fig) (d .tree) (d .within);
+      plan = drawn (figuresOf (d .fig)) (d .tree) (d .good) (d .within);
+      nodes-told = nodes-are (figuresOf (d .fig)) (d .tree) ∙ sym (o .sameNodes);
+      hubs-told = hubs-are (figuresOf (d .fig)) (d .tree) ∙ sym (o .sameHubs);
+      node-port = node-stands (figuresOf (d .fig)) (d .tree) (d .within);
+      one-port = node-only (figuresOf (d .fig)) (d .tree) (d .within);
     })

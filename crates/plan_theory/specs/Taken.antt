@@ -8,18 +8,19 @@ use Rattle.rules.specs.Plan as rules
 use Rattle.rules.specs.Drawn.{Drawn, Within}
 use Rattle.text.specs.Line.{Lines, lines}
 use Rattle.plan.specs.declared.Answer.the-variants.{Taken, Refused}
-use Rattle.plan.specs.Tables.{planOf}
+use Rattle.plan.specs.Tables.{Figures, planOf}
 use Rattle.plan_tree.specs.Tables.{hubOfNode, portOfNode}
-use Rattle.plan.specs.Reading.{Figures, reading}
-use Rattle.plan_theory.specs.Tree.{Hub, draw, nodesIn, hubsIn, limits, goodFigures, tablesOf}
+use Rattle.plan.specs.Reading.{reading}
+use Rattle.plan_theory.specs.Tree.{Header, figuresOf, Hub, draw, nodesIn, hubsIn, limits, goodFigures, goodFraming, tablesOf}
 use Rattle.plan_theory.specs.Behind.{linesOf, past}
 
--- a text starts with the drawing of a tree within the limits, behind three good figures, whatever follows it
+-- a text starts with the drawing of a tree within the limits, behind good figures and a framing that there is, whatever follows it
 pub record DrawnBy (text : List ℕ) : Type 0 where
-  pub fig : Figures
+  pub fig : Header
   pub tree : Hub
   pub rest : Lines
-  pub good : goodFigures fig ≡ true
+  pub good : goodFigures (figuresOf fig) ≡ true
+  pub framed : goodFraming (figuresOf fig) ≡ true
   pub within : limits tree ≡ true
   pub drawn : lines text ≡ draw fig tree rest
 
@@ -30,12 +31,20 @@ TakenAs text nodes hubs at line = reading text .answer ≡ Taken nodes hubs at l
 abbrev pub RefusedAt : List ℕ → ℕ → ℕ → Type 0
 RefusedAt text line number = reading text .answer ≡ Refused line number
 
--- the text is taken for this tree, and `rest` is what stands behind it
-pub record TakenFor (text : List ℕ) (fig : Figures) (h : Hub) (rest : Lines) : Type 0 where
+-- the plan that the cells are has these figures
+pub record FiguresTold (p : rules.Plan) (fig : Figures) : Type 0 where
+  pub frame : p .frame ≡ fig .frame
+  pub overhead : p .overhead ≡ fig .overhead
+  pub interrupt : p .interrupt ≡ fig .interrupt
+  pub framing : p .framing ≡ fig .framing
+
+-- the text is taken for this tree and the figures that its header's lines draw, framing 3 without a line; `rest` is what stands behind it
+pub record TakenFor (text : List ℕ) (fig : Header) (h : Hub) (rest : Lines) : Type 0 where
   pub answer : TakenAs text (nodesIn h) (hubsIn h) (past fig h .at) (past fig h .number)
-  pub tables : reading text .tables ≡ tablesOf fig h
+  pub tables : reading text .tables ≡ tablesOf (figuresOf fig) h
+  pub figures : FiguresTold (planOf (reading text .tables)) (figuresOf fig)
   pub behind : lines (drop (past fig h .at) text) ≡ rest
-  pub number : 1 + linesOf h < 2 ^ 64 → past fig h .number ≡ 1 + linesOf h
+  pub number : 1 + linesOf fig h < 2 ^ 64 → past fig h .number ≡ 1 + linesOf fig h
 
 -- the numbers and the tables that a text is taken with are those of the tree that it draws
 pub record OfTree (text : List ℕ) (nodes hubs at line : ℕ) (d : DrawnBy text) : Type 0 where
@@ -43,7 +52,7 @@ pub record OfTree (text : List ℕ) (nodes hubs at line : ℕ) (d : DrawnBy text
   pub sameHubs : hubs ≡ hubsIn (d .tree)
   pub samePlace : at ≡ past (d .fig) (d .tree) .at
   pub sameLine : line ≡ past (d .fig) (d .tree) .number
-  pub sameTables : reading text .tables ≡ tablesOf (d .fig) (d .tree)
+  pub sameTables : reading text .tables ≡ tablesOf (figuresOf (d .fig)) (d .tree)
 
 -- port q of hub g is a port of the plan, and x stands there
 pub record Holds (p : rules.Plan) (x : rules.Port) (g q : ℕ) : Type 0 where

@@ -1,16 +1,16 @@
 -- The tree of a plan, how it is drawn as lines, its limits, and its tables: what reading is held against.
 use Prim.Native.Nat.{ℕ, _+_, max}
-use mathlib.Core.Bool.{Bool, true, false, _&&_}
+use mathlib.Core.Bool.{Bool, true, false, _&&_, _||_}
 use mathlib.Core.List.{List, [], _∷_}
-use lib.Dec.{leb}
-use Rattle.rules.specs.Plan.{longest-packet, most-hubs, most-ports, most-nodes, most-levels}
+use mathlib.Core.Option.{Option, none, some}
+use lib.Dec.{leb, eqb}
+use Rattle.rules.specs.Plan.{longestIn, most-hubs, most-ports, most-nodes, most-levels}
 use Rattle.text.specs.Line.{Lines, ended}
 use Rattle.text.specs.Form.{drawForm}
-use Rattle.plan.specs.Words.{frame-word, overhead-word, interrupt-word}
+use Rattle.plan.specs.Words.{frame-word, overhead-word, interrupt-word, framing-word}
 use Rattle.plan_tree.specs.Kind.{close-word, node-word, empty-word, hub-word}
 use Rattle.plan_tree.specs.Tables.{noTable, putEmpty, putNode, putHub, putPorts, putRoot}
-use Rattle.plan.specs.Tables.{putFigures}
-use Rattle.plan.specs.Reading.{Figures}
+use Rattle.plan.specs.Tables.{Figures, putFigures}
 
 -- a port is a node, empty or a hub; a hub is its ports and its closing line
 mutual
@@ -35,11 +35,43 @@ unfoldable mutual
   drawHub close rest = ended close-word rest
   drawHub (port x h) rest = drawPort x (drawHub h rest)
 
-unfoldable pub draw : Figures → Hub → Lines → Lines
+-- what the header's lines draw: three figures, and the framing where it has a line
+pub record Header : Type 0 where
+  pub frame : ℕ
+  pub overhead : ℕ
+  pub interrupt : ℕ
+  pub framing : Option ℕ
+
+-- the number that is meant by a line that may be missing
+abbrev pub meant : ℕ → Option ℕ → ℕ
+meant absent none = absent
+meant absent (some x) = x
+
+-- without a line framing 3 is meant
+abbrev pub figuresOf : Header → Figures
+figuresOf fig =
+    record {
+      frame = fig .frame;
+      overhead = fig .overhead;
+      interrupt = fig .interrupt;
+      framing = meant 3 (fig .framing);
+    }
+
+-- a line that may be missing, in front of what follows it; `numbers` are those that stand on it for what it says
+abbrev pub drawOptional : {A : Type 0} → List ℕ → (A → List ℕ) → Option A → Lines → Lines
+drawOptional word numbers none rest = rest
+drawOptional word numbers (some x) rest = ended (drawForm word (numbers x)) rest
+
+-- a line that says one number has just that number
+abbrev pub oneNumber : ℕ → List ℕ
+oneNumber x = x ∷ []
+
+unfoldable pub draw : Header → Hub → Lines → Lines
 draw fig h rest =
     ended (drawForm frame-word (fig .frame ∷ []))
     (ended (drawForm overhead-word (fig .overhead ∷ []))
-    (ended (drawForm interrupt-word (fig .interrupt ∷ [])) (ended hub-word (drawHub h rest))))
+    (ended (drawForm interrupt-word (fig .interrupt ∷ []))
+    (drawOptional framing-word oneNumber (fig .framing) (ended hub-word (drawHub h rest)))))
 
 -- how many ports a hub has
 unfoldable pub portsOf : Hub → ℕ
@@ -101,11 +133,15 @@ fits h =
 unfoldable pub limits : Hub → Bool
 limits h = fits h && leb 1 (nodesIn h)
 
--- T is 100,000 to 4,000,000, O is 0 to 50,000, D is 12,000 + O to T
+-- T is 100,000 to 4,000,000, O is 0 to 50,000, D is the longest packet + O to T
 unfoldable pub goodFigures : Figures → Bool
 goodFigures fig =
     leb 100000 (fig .frame) && leb (fig .frame) 4000000 && leb (fig .overhead) 50000
-    && leb (longest-packet + fig .overhead) (fig .interrupt) && leb (fig .interrupt) (fig .frame)
+    && leb (longestIn (fig .framing) + fig .overhead) (fig .interrupt) && leb (fig .interrupt) (fig .frame)
+
+-- the framing is 3 or 5
+unfoldable pub goodFraming : Figures → Bool
+goodFraming fig = eqb (fig .framing) 3 || eqb (fig .framing) 5
 
 -- the numbers of nodes and hubs so far, in line order, and their tables
 pub record Filled : Type 0 where
@@ -138,4 +174,4 @@ filled h = fillHub h 1 0 1 (record { nodes = 0; hubs = 1; tables = putRoot noTab
 unfoldable pub tablesOf : Figures → Hub → List ℕ
 tablesOf fig h =
     let s = filled h in
-    putFigures (fig .frame) (fig .overhead) (fig .interrupt) (s .nodes) (s .hubs) (s .tables)
+    putFigures fig (s .nodes) (s .hubs) (s .tables)

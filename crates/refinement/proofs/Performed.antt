@@ -17,6 +17,7 @@ use Rattle.rules.specs.Machine.{Machine, Hub, Outcome, Turn, granting, grantTo,
 use Rattle.rules.specs.Control as hubs
 use Rattle.rules.specs.Control.{Control, control}
 use Rattle.rules.specs.Promises.{Acceptable, asks, leaves, reserves, waits, InRange, given-up, packets}
+use Rattle.rules.proofs.Laws.Lengths.{longest-up}
 use Rattle.rules.proofs.Laws.Passes.{Which, which, yes′, no′}
 use Rattle.rules.proofs.Core.CallCases.{Event, asking, leaving, reserving, waiting}
 use Rattle.rules.proofs.Core.RefusalNumbers.{row-number}
@@ -87,7 +88,7 @@ module _ (P : List ℕ) (R : Ready P) (s : List ℕ) (K : Kept (planIn P) s) whe
 -- a reservation's length fits in half a cell
 small-range : {p : Plan} {n b : ℕ} → InRange p n b → b < 65536
 small-range given-up = omega arith
-small-range (packets n b l m u) = omega arith
+small-range {p} (packets n b l m u) = omega (arith, longest-up (p .framing))
 
 accepted-event : (p : Plan) (M : Machine) (h : Hub (M .State)) {call : Call} → Event call
     → accepted p M call h ≡ record { answer = taken; hub = record { core = change call (advance p (time call) (h .core)); turn = h .turn } }
@@ -115,7 +116,7 @@ module _ (P : List ℕ) (R : Ready P) (s : List ℕ) (K : Kept (planIn P) s) whe
   change-left : (a : Core) (call : Call) → Acceptable (planIn P) a call
       → Left (planIn P) (changeBy P call s) (change call (coreOf (planIn P) s)) (controlOf (planIn P) s)
   unfolding changeBy
-  change-left a call (asks c t k b x) = asked-left c k b (x .node) (omega (arith, x .long))
+  change-left a call (asks c t k b x) = asked-left c k b (x .node) (omega (arith, x .long, longest-up (planIn P .framing)))
   change-left a call (leaves t k o w) =
       request-left P R s (K .size) k w (kept-right (planIn P) k s K) (kept-but (planIn P) s K) 0
   change-left a call (reserves t k n b x) = reserve-left P R s K k (x .node) n b (small-range (x .range))

@@ -8,9 +8,9 @@ use lib.Seq.{getD-set-other}
 use Rattle.rules.specs.Plan.{Plan, node}
 use Rattle.rules.specs.Drawn.{Drawn, Within}
 use Rattle.plan_tree.specs.Tables.{cells, noTable, putRoot, hubOfNode, portOfNode, levelCell, parentCell}
-use Rattle.plan.specs.Tables.{planOf}
-use Rattle.plan.specs.Reading.{Figures, reading}
-use Rattle.plan_theory.specs.Tree.{Hub, filled, tablesOf}
+use Rattle.plan.specs.Tables.{Figures, planOf}
+use Rattle.plan.specs.Reading.{reading}
+use Rattle.plan_theory.specs.Tree.{figuresOf, Hub, filled, tablesOf}
 use Rattle.plan_theory.specs.Taken.{Holds, TakenAs, TakenPlan}
 use Rattle.plan_theory.proofs.Tables.Regions.{hub-later, head-own}
 use Rattle.plan_theory.proofs.Tables.Puts.{cell, figures-other}
@@ -32,7 +32,7 @@ root-none =
 tree-root : (fig : Figures) (x : Hub) → HubRoom x 0 1 0 1 → cell (tablesOf fig x) (parentCell 1) ≡ 0
 unfolding tablesOf
 tree-root fig x lim =
-    figures-other (filled x .tables) (fig .frame) (fig .overhead) (fig .interrupt) (filled x .nodes) (filled x .hubs) (parentCell 1) (omega arith)
+    figures-other (filled x .tables) fig (filled x .nodes) (filled x .hubs) (parentCell 1) (omega arith)
     ∙ kept-hub x 1 0 1 (record { nodes = 0; hubs = 1; tables = putRoot noTable }) (parentCell 1) (root-room x lim)
     (hub-later 0 1 1 1 (omega arith) (omega arith) (omega arith) (omega arith)) (head-own 1 0 1 (omega arith) (omega arith))
     ∙ root-none
@@ -41,7 +41,7 @@ pub taken-root : (text : List ℕ) (nodes hubs at line : ℕ) → TakenAs text n
 taken-root text nodes hubs at line t =
     let d = taken-drawn text nodes hubs at line t in
     let o = taken-of text nodes hubs at line t d in
-    ap (λ (s : List ℕ). cell s (parentCell 1)) (o .sameTables) ∙ tree-root (d .fig) (d .tree) (limits-room (d .tree) (d .within) .0)
+    ap (λ (s : List ℕ). cell s (parentCell 1)) (o .sameTables) ∙ tree-root (figuresOf (d .fig)) (d .tree) (limits-room (d .tree) (d .within) .0)
 
 -- a taken plan has no more nodes than the table has cells for
 bounded-same : (p : Plan) → p .nodes ≤ 256 → bounded p ≡ p
@@ -51,6 +51,7 @@ bounded-same p few =
       frame = p .frame;
       overhead = p .overhead;
       interrupt = p .interrupt;
+      framing = p .framing;
       nodes = e i;
       hubs = p .hubs;
       ports = p .ports;

@@ -15,7 +15,9 @@ use Rattle.refinement.specs.Written.{mostBy, mostAtStart}
 
 -- the figures of document 01's example; hub 1 has hub 2, and hub 2 has node 1
 abbrev pub two-hubs : List ℕ
-two-hubs = putFigures 100000 1000 13000 1 2 (putPorts 1 1 (putPorts 2 1 (putNode 2 1 1 (putHub 1 1 2 2 (putRoot noTable)))))
+two-hubs =
+    putFigures (record { frame = 100000; overhead = 1000; interrupt = 13000; framing = 3 }) 1 2
+    (putPorts 1 1 (putPorts 2 1 (putNode 2 1 1 (putHub 1 1 2 2 (putRoot noTable)))))
 
 -- of each call of a list, the latest first: a number told by the call and the cells before it
 unfoldable pub each : List ℕ → (List ℕ → Call → List ℕ → ℕ) → List Call → List ℕ

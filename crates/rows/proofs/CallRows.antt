@@ -8,6 +8,7 @@ use lib.Dec.{ltb}
 use Rattle.rules.specs.Drawn.{Within}
 use Rattle.rules.specs.Call.{Class, Call, ask, off, until}
 use Rattle.rules.specs.Rows.{Row, last-time, row13, row15, row16}
+use Rattle.rules.proofs.Laws.Lengths.{longest-up}
 use Rattle.rules.proofs.Core.CallCases.{Clear, clear}
 use Rattle.rules.proofs.Core.RowsPassed.{passed11, passed13, passed15}
 use Rattle.cells.specs.Layout.{half, timeAt, clock-cell}
@@ -75,4 +76,4 @@ module _ (P s : List ℕ) where
   ask-asked c t k b e z =
       let h = call-passed P s (ask c t k b) e z in
       let range = passed15 (planIn P) b .0 (h .1 .1 .1 .0) in
-      record { node = passed13 (planIn P) k .0 (h .1 .1 .0); bits = omega arith }
+      record { node = passed13 (planIn P) k .0 (h .1 .1 .0); bits = omega (arith, longest-up (planIn P .framing)) }

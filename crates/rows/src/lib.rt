@@ -8,10 +8,9 @@ ghost use mathlib.Core.Bool.{_||_};
 ghost use lib.Dec.{ltb};
 ghost use lib.ListN.{getD};
 ghost use Rattle.rules.specs.Choice.{if_then_else_};
-ghost use Rattle.rules.specs.Plan.{longest-packet};
 ghost use Rattle.rules.specs.Drawn.{Within};
 ghost use Rattle.rules.specs.Call.{ask, off, until};
-ghost use Rattle.rules.specs.Rows.{last-time, row13, row16};
+ghost use Rattle.rules.specs.Rows.{last-time, row13, row15, row16};
 ghost use Rattle.cells.specs.Layout.{timeAt, clock-cell, classOf, forceCell, latestCell};
 ghost use Rattle.cells.specs.Decode.{planIn, coreOf};
 ghost use Rattle.cells.specs.Frames.{newFrame};
@@ -64,14 +63,14 @@ pub fn node_row(p: &Plan, s: &Cascade, t: u64, k: u64) -> u32
     0
 }
 
-// 15: b outside 512 to 12,000.
-pub fn outside(b: u64) -> bool
-    ensures { λ r. ⌜ r ≡ (ltb b 512 || ltb longest-packet b) ⌝ }
+// 15: b outside 512 to the plan's longest packet.
+pub fn outside(p: &Plan, b: u64) -> bool
+    ensures { λ r. ⌜ r ≡ row15 (planIn (now (p .entry))) b .applies ⌝ }
 {
     if b < 512 {
         return true;
     }
-    12000 < b
+    header::longest(p[plan::FRAMING]) < b
 }
 
 // The cell of node k's reservation in force at t.
@@ -109,7 +108,7 @@ pub fn ask_row(p: &Plan, s: &Cascade, high: bool, t: u64, k: u64, b: u64) -> u32
     if row != 0 {
         return row;
     }
-    if outside(b) {
+    if outside(p, b) {
         return 15;
     }
     if unreserved(p, s, high, t, k as u32, b) {

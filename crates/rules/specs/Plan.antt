@@ -1,5 +1,7 @@
 -- "The plan": its figures and its tree of hubs, as tables. Nodes, hubs and ports are numbered from 1; hub 1 is the root.
 use Prim.Native.Nat.{ℕ, zero, suc, max}
+use lib.Dec.{eqb}
+use Rattle.rules.specs.Choice.{if_then_else_}
 
 pub data Port : Type 0 where
   node : ℕ → Port
@@ -13,6 +15,8 @@ pub record Plan : Type 0 where
   pub overhead : ℕ
   -- D, the longest time that a packet in progress can hold the line
   pub interrupt : ℕ
+  -- the framing of its packets: 5 for token ring's, 3 for Ethernet's
+  pub framing : ℕ
   -- N and H, how many nodes and hubs there are
   pub nodes : ℕ
   pub hubs : ℕ
@@ -40,12 +44,13 @@ most-levels = 5
 abbrev pub shortest : Plan → ℕ
 shortest p = 512
 
--- the longest packet on a line
-abbrev pub longest-packet : ℕ
-longest-packet = 12000
+-- the longest packet by its framing, in bits: 4,500 bytes with 5, 1,500 bytes with 3;
+-- any other number, which no plan that was read has, counts as 3
+abbrev pub longestIn : ℕ → ℕ
+longestIn framing = if eqb framing 5 then 36000 else 12000
 
 abbrev pub longest : Plan → ℕ
-longest p = longest-packet
+longest p = longestIn (p .framing)
 
 -- L, the number of levels: the greatest level among hubs 1 to H
 unfoldable pub deepest : ℕ → (ℕ → ℕ) → ℕ

@@ -50,7 +50,7 @@ row13 p k = record { number = 13; applies = eqb k 0 || ltb (p .nodes) k }
 abbrev pub row14 : ℕ → Row
 row14 n = record { number = 14; applies = ltb 64 n }
 
--- 15: b outside 512 to 12,000
+-- 15: b outside 512 to the plan's longest packet
 abbrev pub row15 : Plan → ℕ → Row
 row15 p b = record { number = 15; applies = ltb b (shortest p) || ltb (longest p) b }
 

@@ -9,6 +9,7 @@ plan01 =
       frame = 100000;
       overhead = 1000;
       interrupt = 13000;
+      framing = 3;
       nodes = 4;
       hubs = 2;
       ports = λ g. getD (0 ∷ 3 ∷ 2 ∷ []) g 0;

@@ -196,6 +196,7 @@ narrow =
       frame = 100000;
       overhead = 31000;
       interrupt = 43000;
+      framing = 3;
       nodes = plan01 .nodes;
       hubs = plan01 .hubs;
       ports = plan01 .ports;

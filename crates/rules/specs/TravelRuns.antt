@@ -64,6 +64,7 @@ nested =
       frame = plan01 .frame;
       overhead = plan01 .overhead;
       interrupt = plan01 .interrupt;
+      framing = plan01 .framing;
       nodes = 5;
       hubs = 3;
       ports = λ g. getD (0 ∷ 3 ∷ 3 ∷ 1 ∷ []) g 0;

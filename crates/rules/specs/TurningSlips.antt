@@ -85,6 +85,7 @@ pair =
       frame = plan01 .frame;
       overhead = plan01 .overhead;
       interrupt = plan01 .interrupt;
+      framing = plan01 .framing;
       nodes = 4;
       hubs = 3;
       ports = λ g. getD (0 ∷ 2 ∷ 2 ∷ 2 ∷ []) g 0;

@@ -1,5 +1,5 @@
 -- The worked lists of demand 3, by computing; what they show of its premises and its claim; and
--- the theorem itself, of the two lists of which all premises hold.
+-- the theorem itself, of the three lists of which all premises hold.
 use Prim.Native.Nat.{_≤_}
 use mathlib.Core.Path.{_≡_, refl, ap}
 use mathlib.Core.Bool.{Bool, true, false, _&&_}
@@ -13,7 +13,7 @@ use Rattle.text.specs.Form.{andThen, readSpaced, readClose, readNumbers, readBe
 use Rattle.plan_tree.specs.Kind.{kindOf}
 use Rattle.plan_tree.specs.Tables.{putEmpty, putNode, putHub, putPorts, putRoot}
 use Rattle.plan.specs.Tables.{putFigures, planOf}
-use Rattle.plan.specs.Reading.{hubLines, rootLine, interruptLine, overheadLine, frameLine, reading}
+use Rattle.plan.specs.Reading.{hubLines, rootLine, framingLine, interruptLine, overheadLine, frameLine, reading}
 use Rattle.plan_theory.specs.Taken.{TakenAs, TakenPlan}
 use Rattle.plan_theory.proofs.TakenPlan.{taken-plan}
 use Rattle.rules.specs.Choice.{any, sum, first}
@@ -26,16 +26,16 @@ use Rattle.rules.specs.Words.{clockAt, reserved, requestAt, highGrants, delayLi
 use Rattle.rules.proofs.Demand3.OfControl.{control-demand3}
 use Rattle.rules.proofs.Laws.Passes.{true-false}
 use Rattle.trials.specs.Text.{bytes, textOf}
-use Rattle.trials.specs.Plans.{plan01}
+use Rattle.trials.specs.Plans.{plan01, ring}
 use Rattle.trials.specs.Demand3Tests.{isHigh, unbroken, nextTurns}
-use Rattle.trials.specs.Demand3Runs.{Figures, Worked, planRead, whole, frameEnd, figures, demand3-runs, AllRight, Says, UnbrokenOf, NextTurnsOf, RunToOf, ClaimOf, Shown, AllShown, at-the-limit, over-the-start}
+use Rattle.trials.specs.Demand3Runs.{Figures, Worked, planRead, whole, frameEnd, figures, demand3-runs, AllRight, Says, UnbrokenOf, NextTurnsOf, RunToOf, ClaimOf, Shown, AllShown, at-the-limit, over-the-start, ring-at-the-limit}
 use Rattle.trials.proofs.Demand3Tests.{unbroken-is, next-turns-is, demand3-is, run-to-is}
 
 pub runs-right : AllRight demand3-runs
 unfolding
     bytes textOf figures
     before lines digitRun keepDigit wellFormed valueFrom readRun readNumber startsWith isWord andThen readSpaced readClose readNumbers readBehind readForm
-    kindOf reading frameLine overheadLine interruptLine rootLine hubLines putRoot putNode putEmpty putHub putPorts putFigures planOf
+    kindOf reading frameLine overheadLine interruptLine framingLine rootLine hubLines putRoot putNode putEmpty putHub putPorts putFigures planOf
     any sum first advance countsIn counts held due sought below lowest walk led nearest chooseBy perform made
     clockAt reserved requestAt highGrants delayLimit isHigh unbroken nextTurns
 runs-right = record { read = refl; answered = refl; figured = refl }
@@ -88,3 +88,16 @@ unfolding AllShown
 over-the-start-kept =
     let s = runs-shown .1 .0 in
     its-claim over-the-start (on-the-plan .plan) (omega arith) (omega (arith, on-the-plan .nodes-told)) (s .unbroken) (s .next-turns) (s .run-to)
+
+-- with framing 5, by the same theorem
+ring-taken : TakenAs ring 4 2 103 13
+ring-taken = let e = runs-right .read in cc
+
+on-the-ring : TakenPlan (reading ring .tables) 4 2
+on-the-ring = taken-plan ring 4 2 103 13 ring-taken
+
+pub ring-at-the-limit-kept : ClaimOf ring-at-the-limit
+unfolding AllShown
+ring-at-the-limit-kept =
+    let s = runs-shown .1 .1 .0 in
+    its-claim ring-at-the-limit (on-the-ring .plan) (omega arith) (omega (arith, on-the-ring .nodes-told)) (s .unbroken) (s .next-turns) (s .run-to)

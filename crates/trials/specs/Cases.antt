@@ -1,9 +1,10 @@
 -- The trial cases marked M, in document 01's words. Except M1 and M2 they use its plan.
 use Prim.Native.Nat.{ℕ}
-use mathlib.Core.List.{List, [], _∷_}
+use mathlib.Core.List.{List, [], _∷_, _++_}
 use Rattle.rules.specs.Call.{normal, high, ask, reserve, step, taken, refused, grant, rest, quiet}
+use Rattle.trials.specs.Text.{textOf}
 use Rattle.trials.specs.Row.{Row, _⟶_, refusing, taking}
-use Rattle.trials.specs.Plans.{plan01, nine, short-interrupt, six-levels, three-levels}
+use Rattle.trials.specs.Plans.{tree01, figures01, plan01, nine, short-interrupt, framed, ring, six-levels, three-levels}
 
 -- M1: one hub of 9 nodes, pointer 3 (by a grant to node 2), normal from 2, 3, 5, 9: granted 3, 5, 9, 2
 abbrev pub m1 : Row
@@ -177,10 +178,54 @@ m11 = three-levels-by 1 1 5 4 0
 abbrev pub m11-from-root : Row
 m11-from-root = three-levels-by 3 3 7 6 4
 
+-- M12, for request 3 of document 02: with framing 5 512 and 36,000 pass row 15, and 511 and 36,001 don't
+abbrev pub m12-lengths : Row
+m12-lengths =
+    taking ring 4 2
+    (ask normal 0 1 511 ⟶ refused 15
+    ∷ ask normal 0 1 512 ⟶ taken
+    ∷ ask normal 0 1 36000 ⟶ taken
+    ∷ ask normal 0 1 36001 ⟶ refused 15
+    ∷ reserve 0 3 1 36001 ⟶ refused 15
+    ∷ reserve 0 3 1 36000 ⟶ taken
+    -- a packet of 36,000 and its overhead
+    ∷ step 200000 ⟶ grant 0 1 normal 37000 0
+    ∷ step 200000 ⟶ rest 37000 0
+    ∷ ask high 200000 3 36001 ⟶ refused 15
+    ∷ ask high 200000 3 36000 ⟶ taken
+    ∷ step 200001 ⟶ grant 200000 3 high 237000 1
+    ∷ [])
+
+-- with framing 3 written out 12,000 is the longest, as without the line
+abbrev pub m12-three : Row
+m12-three =
+    taking (framed "(interrupt 13000)" "(framing 3)") 4 2
+    (ask normal 0 1 12000 ⟶ taken ∷ ask normal 0 1 12001 ⟶ refused 15 ∷ [])
+
+-- the rows of the framing's line: 1, then 4, then 2; D below 12,000 + O is 2 on its own line
+abbrev pub m12-refused : List Row
+m12-refused =
+    refusing (framed "(interrupt 37000)" "(framing)") 4 1
+    ∷ refusing (framed "(interrupt 37000)" "(framing 03)") 4 1
+    ∷ refusing (framed "(interrupt 37000)" "(framing 12345678901234567)") 4 1
+    ∷ refusing (framed "(interrupt 37000)" "(framing 1234567890123456)") 4 4
+    ∷ refusing (framed "(interrupt 13000)" "(framing 4)") 4 4
+    ∷ refusing (framed "(interrupt 36999)" "(framing 5)") 4 2
+    ∷ refusing (framed "(interrupt 12999)" "(framing 4)") 3 2
+    ∷ []
+
+-- and a framing line anywhere else is 1: before the interrupt, twice, behind the root's `(hub`
+abbrev pub m12-elsewhere : List Row
+m12-elsewhere =
+    refusing (framed "(framing 5)" "(interrupt 37000)") 3 1
+    ∷ refusing (textOf (figures01 ++ "(framing 3)" ∷ "(framing 3)" ∷ tree01)) 5 1
+    ∷ refusing (textOf (figures01 ++ "(hub" ∷ "(framing 3)" ∷ "(node)" ∷ ")" ∷ [])) 5 1
+    ∷ []
+
 abbrev pub cases : List Row
 cases =
     m1 ∷ m2 ∷ m3 ∷ m4 ∷ m5-granted ∷ m5-refused ∷ m6 ∷ m7-normal ∷ m7-reserve ∷ m7-high ∷ m8 ∷ m9 ∷ m10-interrupt
-    ∷ m10-levels ∷ m11 ∷ []
+    ∷ m10-levels ∷ m11 ∷ m12-lengths ∷ m12-three ∷ m12-refused ++ m12-elsewhere
 
 -- cases by the old rule 2: M4's counts are the same by both
 abbrev pub cases-from-root : List Row

@@ -1,5 +1,6 @@
--- Demand 3 worked: lists of calls on document 01's plan as it is read from its text. In the first the nth packet ends just at
--- the limit, in the second one bit time before it. In each of the others one premise fails alone, and the claim with it.
+-- Demand 3 worked: lists of calls on document 01's plan as it is read from its text, and on one with framing 5. In the first and the
+-- third the nth packet ends just at the limit, in the second one bit time before it. In each of the others one premise fails alone, and
+-- the claim with it.
 use Prim.Native.Nat.{ℕ, _+_, _*_}
 use mathlib.Core.Path.{_≡_}
 use mathlib.Core.Bool.{Bool, true, false, _&&_}
@@ -15,7 +16,7 @@ use Rattle.plan.specs.declared.Answer.the-variants.{Taken}
 use Rattle.plan.specs.Tables.{planOf}
 use Rattle.plan.specs.Reading.{reading}
 use Rattle.trials.specs.Row.{_⟶_}
-use Rattle.trials.specs.Plans.{plan01}
+use Rattle.trials.specs.Plans.{plan01, ring}
 use Rattle.trials.specs.Demand3Tests.{unbroken, nextTurns, limit, exactly, inTime, runTo}
 
 -- what is worked out of a list
@@ -80,56 +81,56 @@ reserves =
     ∷ reserve 0 2 1 3000 ⟶ taken
     ∷ reserve 0 3 2 2000 ⟶ taken
     ∷ reserve 0 4 2 512 ⟶ taken
-    ∷ reserve 0 4 50 512 ⟶ refused 17
+    ∷ reserve 0 4 64 2000 ⟶ refused 17
     ∷ ask high 0 4 512 ⟶ refused 16
     ∷ []
 
--- At t a normal packet of 12,000 begins, and at that same time node 4 puts up its
--- request. While the packet runs the others ask, and all of them go before node 4
-abbrev pub first-round : ℕ → List Entry
-first-round t =
-    ask normal t 2 12000 ⟶ taken
-    ∷ step 200000 ⟶ grant t 2 normal (t + 13000) 1
+-- At t a normal packet of b bits begins, which ends at u, and at that same time node 4 puts up its request. While the
+-- packet runs the others ask, and all of them go before node 4. e is the bound of the steps, the frame's end
+abbrev pub first-round : ℕ → ℕ → ℕ → ℕ → List Entry
+first-round b t u e =
+    ask normal t 2 b ⟶ taken
+    ∷ step e ⟶ grant t 2 normal u 1
     ∷ ask high t 4 512 ⟶ taken
     ∷ ask high t 1 4000 ⟶ taken
-    ∷ step (t + 13000) ⟶ quiet
+    ∷ step u ⟶ quiet
     ∷ ask normal (t + 5000) 3 12000 ⟶ taken
     ∷ off (t + 6000) 3 ⟶ taken
     ∷ ask high (t + 6000) 2 3001 ⟶ refused 16
     ∷ ask high (t + 6000) 2 3000 ⟶ taken
-    ∷ ask high (t + 13000) 3 2000 ⟶ taken
-    ∷ step 200000 ⟶ grant (t + 13000) 1 high (t + 18000) 1
-    ∷ ask high (t + 13000) 1 4000 ⟶ taken
-    ∷ step 200000 ⟶ grant (t + 18000) 2 high (t + 22000) 1
-    ∷ step 200000 ⟶ grant (t + 22000) 3 high (t + 25000) 0
-    ∷ ask high (t + 22000) 3 2000 ⟶ taken
+    ∷ ask high u 3 2000 ⟶ taken
+    ∷ step e ⟶ grant u 1 high (u + 5000) 1
+    ∷ ask high u 1 4000 ⟶ taken
+    ∷ step e ⟶ grant (u + 5000) 2 high (u + 9000) 1
+    ∷ step e ⟶ grant (u + 9000) 3 high (u + 12000) 0
+    ∷ ask high (u + 9000) 3 2000 ⟶ taken
     ∷ []
 
 -- Node 4 has its first packet and asks for its second; nodes 1 and 3 go before it again, and node 2's request is held
-abbrev pub second-round : ℕ → List Entry
-second-round t =
-    step 200000 ⟶ grant (t + 25000) 4 high (t + 26512) 1
-    ∷ ask high (t + 25000) 4 512 ⟶ taken
-    ∷ ask high (t + 25000) 2 3000 ⟶ taken
-    ∷ step 200000 ⟶ grant (t + 26512) 1 high (t + 31512) 0
-    ∷ ask high (t + 26512) 1 4000 ⟶ taken
-    ∷ step 200000 ⟶ grant (t + 31512) 3 high (t + 34512) 1
+abbrev pub second-round : ℕ → ℕ → List Entry
+second-round u e =
+    step e ⟶ grant (u + 12000) 4 high (u + 13512) 1
+    ∷ ask high (u + 12000) 4 512 ⟶ taken
+    ∷ ask high (u + 12000) 2 3000 ⟶ taken
+    ∷ step e ⟶ grant (u + 13512) 1 high (u + 18512) 0
+    ∷ ask high (u + 13512) 1 4000 ⟶ taken
+    ∷ step e ⟶ grant (u + 18512) 3 high (u + 21512) 1
     ∷ []
 
 -- Its second one goes before node 1's third. Then the clock moves to the frame's end
-abbrev pub last-turns : ℕ → List Entry
-last-turns t =
-    step 200000 ⟶ grant (t + 34512) 4 high (t + 36024) 1
-    ∷ until 200000 ⟶ refused 12
-    ∷ step 200000 ⟶ grant (t + 36024) 1 high (t + 41024) 0
-    ∷ step 200000 ⟶ rest (t + 41024) 0
-    ∷ until 200000 ⟶ taken
+abbrev pub last-turns : ℕ → ℕ → List Entry
+last-turns u e =
+    step e ⟶ grant (u + 21512) 4 high (u + 23024) 1
+    ∷ until e ⟶ refused 12
+    ∷ step e ⟶ grant (u + 23024) 1 high (u + 28024) 0
+    ∷ step e ⟶ rest (u + 28024) 0
+    ∷ until e ⟶ taken
     ∷ []
 
 -- All premises hold: the normal packet begins just at the frame's start, and node 4's second packet ends just at the limit
 abbrev pub at-the-limit : Worked
 at-the-limit =
-    on01 4 1 (reserves ++ first-round 100000 ++ second-round 100000 ++ last-turns 100000)
+    on01 4 1 (reserves ++ first-round 12000 100000 113000 200000 ++ second-round 113000 200000 ++ last-turns 113000 200000)
     (record {
       packets = 2;
       ends = 136024 ∷ 126512 ∷ [];
@@ -211,11 +212,34 @@ over-the-start =
       in-time = true;
     })
 
+-- All premises hold, with framing 5: the packet in progress has 36,000 bits, and the nth packet again ends just at the limit,
+-- 200,000 + 37,000 + 2 × 1,512 + 2 × 5,000 + 1 × 4,000 + 2 × 3,000. The framing's line has 12 bytes
+abbrev pub ring-at-the-limit : Worked
+ring-at-the-limit =
+    record {
+      text = ring;
+      read = Taken 4 2 103 13;
+      node = 4;
+      frame = 1;
+      list = reserves ++ first-round 36000 200000 237000 400000 ++ second-round 237000 400000 ++ last-turns 237000 400000;
+      expected =
+          record {
+            packets = 2;
+            ends = 260024 ∷ 250512 ∷ [];
+            limit = 260024;
+            unbroken = true;
+            next-turns = true;
+            run-to = true;
+            exactly = true;
+            in-time = true;
+          };
+    }
+
 -- `Unbroken` fails alone. The first list one bit time later: node 4's request isn't there at the
 -- frame's start, and its second packet ends one bit time behind the limit
 abbrev pub asked-late : Worked
 asked-late =
-    on01 4 1 (reserves ++ first-round 100001 ++ second-round 100001 ++ last-turns 100001)
+    on01 4 1 (reserves ++ first-round 12000 100001 113001 200000 ++ second-round 113001 200000 ++ last-turns 113001 200000)
     (record {
       packets = 2;
       ends = 136025 ∷ 126513 ∷ [];
@@ -233,7 +257,7 @@ abbrev pub withdrawn-once : Worked
 withdrawn-once =
     on01 4 1
     (reserves
-    ++ first-round 100000
+    ++ first-round 12000 100000 113000 200000
     ++ (off 125000 4 ⟶ taken
     ∷ step 125001 ⟶ grant 125000 1 high 130000 1
     ∷ ask high 125000 4 512 ⟶ taken
@@ -288,8 +312,8 @@ abbrev pub turn-missed : Worked
 turn-missed =
     on01 4 1
     (reserves
-    ++ first-round 100000
-    ++ second-round 100000
+    ++ first-round 12000 100000 113000 200000
+    ++ second-round 113000 200000
     ++ (off 134512 4 ⟶ taken
     ∷ step 134513 ⟶ grant 134512 1 high 139512 1
     ∷ ask high 134512 4 512 ⟶ taken
@@ -313,7 +337,7 @@ abbrev pub asked-once : Worked
 asked-once =
     on01 4 1
     (reserves
-    ++ first-round 100000
+    ++ first-round 12000 100000 113000 200000
     ++ (step 200000 ⟶ grant 125000 4 high 126512 1
     ∷ step 200000 ⟶ grant 126512 1 high 131512 0
     ∷ step 200000 ⟶ grant 131512 3 high 134512 1
@@ -334,7 +358,7 @@ asked-once =
 -- `RunTo` fails alone. The steps are run up to node 4's second turn, and the instant there is still to be handled
 abbrev pub not-run : Worked
 not-run =
-    on01 4 1 (reserves ++ first-round 100000 ++ second-round 100000 ++ (step 134512 ⟶ quiet ∷ []))
+    on01 4 1 (reserves ++ first-round 12000 100000 113000 200000 ++ second-round 113000 200000 ++ (step 134512 ⟶ quiet ∷ []))
     (record {
       packets = 2;
       ends = 126512 ∷ [];
@@ -347,7 +371,7 @@ not-run =
     })
 
 abbrev pub demand3-runs : List Worked
-demand3-runs = at-the-limit ∷ over-the-start ∷ asked-late ∷ withdrawn-once ∷ made-normal ∷ turn-missed ∷ asked-once ∷ not-run ∷ []
+demand3-runs = at-the-limit ∷ over-the-start ∷ ring-at-the-limit ∷ asked-late ∷ withdrawn-once ∷ made-normal ∷ turn-missed ∷ asked-once ∷ not-run ∷ []
 
 -- row by row: the text is answered so, the calls on its hub are answered so, and the figures are those
 pub record AllRight (rows : List Worked) : Type 0 where

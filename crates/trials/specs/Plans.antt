@@ -26,6 +26,14 @@ nine =
 abbrev pub short-interrupt : List ℕ
 short-interrupt = textOf ("(frame 100000)" ∷ "(overhead 1000)" ∷ "(interrupt 12999)" ∷ tree01)
 
+-- a line of framing behind these figures, and document 01's tree
+abbrev pub framed : String → String → List ℕ
+framed interrupt framing = textOf ("(frame 200000)" ∷ "(overhead 1000)" ∷ interrupt ∷ framing ∷ tree01)
+
+-- token ring frames: D is 36,000 + O
+abbrev pub ring : List ℕ
+ring = framed "(interrupt 37000)" "(framing 5)"
+
 -- six levels: the hub of level 6 stands at line 9
 abbrev pub six-levels : List ℕ
 six-levels =

@@ -1,11 +1,12 @@
 //! Clock, line, requests, reservations and frames: all of document 01's events
 //! and selection that doesn't depend on how a turn is chosen.
 
-use crate::plan::{Plan, LONGEST_PACKET};
+use crate::plan::Plan;
 
 /// Row 11: "t above 10^15".
 pub const LAST_TIME: u64 = 1_000_000_000_000_000;
-/// Row 15: "b outside 512 to 12,000".
+/// Row 15: "b outside 512 to 12,000", or to what the plan's framing has in place
+/// of 12,000.
 pub const SHORTEST_PACKET: u64 = 512;
 /// Row 14: "n above 64".
 pub const MOST_PACKETS: u64 = 64;
@@ -105,6 +106,8 @@ pub struct Core<M> {
     frame: u64,
     overhead: u64,
     interrupt: u64,
+    /// The plan's longest packet.
+    longest: u64,
     /// "The latest time of an accepted event or a handled instant, at first 0."
     clock: u64,
     /// The end until which the line is busy, "until that end is handled".
@@ -121,6 +124,7 @@ impl<M: Turns> Core<M> {
             frame: plan.frame,
             overhead: plan.overhead,
             interrupt: plan.interrupt,
+            longest: plan.longest_packet(),
             clock: 0,
             line: None,
             nodes: vec![Node::default(); plan.nodes],
@@ -221,7 +225,7 @@ impl<M: Turns> Core<M> {
     pub fn normal(&mut self, t: u64, k: u64, b: u64) -> Result<(), Row> {
         self.rows_11_12(t)?;
         let k = self.row_13(k)?;
-        row_15(b)?;
+        self.row_15(b)?;
         self.move_clock(t);
         self.nodes[k].request = Some(Request { class: Class::Normal, bits: b });
         Ok(())
@@ -231,7 +235,7 @@ impl<M: Turns> Core<M> {
     pub fn high(&mut self, t: u64, k: u64, b: u64) -> Result<(), Row> {
         self.rows_11_12(t)?;
         let k = self.row_13(k)?;
-        row_15(b)?;
+        self.row_15(b)?;
         self.row_16(t, k, b)?;
         self.move_clock(t);
         self.nodes[k].request = Some(Request { class: Class::High, bits: b });
@@ -256,7 +260,7 @@ impl<M: Turns> Core<M> {
             return Err(14);
         }
         if n > 0 {
-            row_15(b)?;
+            self.row_15(b)?;
         } else if b != 0 {
             // "In a reserve with n = 0 instead: b not 0."
             return Err(15);
@@ -292,6 +296,12 @@ impl<M: Turns> Core<M> {
         Ok(k as usize - 1)
     }
 
+    /// "b outside 512 to 12,000", where "the check of a length now takes the
+    /// longest packet from the plan".
+    fn row_15(&self, b: u64) -> Result<(), Row> {
+        refuse(15, !(SHORTEST_PACKET..=self.longest).contains(&b))
+    }
+
     /// "n in force at t is 0, or b above the b in force." The frame of t may be
     /// behind the clock's; the latest reservations are in force there.
     fn row_16(&self, t: u64, k: usize, b: u64) -> Result<(), Row> {
@@ -312,11 +322,6 @@ impl<M: Turns> Core<M> {
         }
         refuse(17, sum > self.frame)
     }
-}
-
-/// "b outside 512 to 12,000."
-fn row_15(b: u64) -> Result<(), Row> {
-    refuse(15, !(SHORTEST_PACKET..=LONGEST_PACKET).contains(&b))
 }
 
 fn refuse(row: Row, condition: bool) -> Result<(), Row> {

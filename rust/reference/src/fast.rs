@@ -5,7 +5,7 @@
 
 use crate::core::{Class, LAST_TIME, MOST_PACKETS, SHORTEST_PACKET};
 use crate::hub::{Answer, Call, Calls};
-use crate::plan::{Plan, LONGEST_PACKET};
+use crate::plan::Plan;
 
 /// A set of node places, 0 to 255.
 #[derive(Clone, Copy, Debug, Default)]
@@ -70,6 +70,8 @@ struct Reservations {
 pub struct Fast {
     frame: u64,
     overhead: u64,
+    /// The plan's longest packet; its bits and a request's fit 16.
+    longest: u64,
     /// T - D, what the reservations may fill.
     room: u64,
     /// Their sum of n × c, at most `room`.
@@ -106,6 +108,7 @@ impl Fast {
         Fast {
             frame: plan.frame,
             overhead: plan.overhead,
+            longest: plan.longest_packet(),
             room: plan.frame - plan.interrupt,
             filled: 0,
             nodes: plan.nodes as u64,
@@ -231,7 +234,7 @@ impl Fast {
     fn normal(&mut self, t: u64, k: u64, b: u64) -> Result<(), u32> {
         self.rows_11_12(t)?;
         let k = self.row_13(k)?;
-        row_15(b)?;
+        self.row_15(b)?;
         self.move_clock(t);
         self.stand(k, b);
         self.high.drop(k);
@@ -243,7 +246,7 @@ impl Fast {
     fn high(&mut self, t: u64, k: u64, b: u64) -> Result<(), u32> {
         self.rows_11_12(t)?;
         let k = self.row_13(k)?;
-        row_15(b)?;
+        self.row_15(b)?;
         let reservations = if t < self.next_start { &self.in_force } else { &self.latest };
         let place = usize::from(k);
         if reservations.n[place] == 0 || b > u64::from(reservations.b[place]) {
@@ -287,7 +290,7 @@ impl Fast {
             return Err(14);
         }
         if n > 0 {
-            row_15(b)?;
+            self.row_15(b)?;
         } else if b != 0 {
             return Err(15);
         }
@@ -338,14 +341,14 @@ impl Fast {
             Ok((k - 1) as u8)
         }
     }
-}
 
-#[inline]
-fn row_15(b: u64) -> Result<(), u32> {
-    if (SHORTEST_PACKET..=LONGEST_PACKET).contains(&b) {
-        Ok(())
-    } else {
-        Err(15)
+    #[inline]
+    fn row_15(&self, b: u64) -> Result<(), u32> {
+        if (SHORTEST_PACKET..=self.longest).contains(&b) {
+            Ok(())
+        } else {
+            Err(15)
+        }
     }
 }
 

@@ -1,7 +1,8 @@
-//! The cascade hub as document 01 tells it, to compare other hubs with.
+//! The cascade hub as document 01 tells it, with the slips of document 02 that
+//! have landed, to compare other hubs with.
 //!
-//! Written from document 01 alone; its sentences stand in quotation marks at
-//! what they decide. Nodes, hubs, ports and lines are numbered from 1, times
+//! Written from these documents alone; their sentences stand in quotation marks
+//! at what they decide. Nodes, hubs, ports and lines are numbered from 1, times
 //! are in bit times.
 //!
 //! - [`text`], [`plan`]: lines and forms; a plan read and drawn.

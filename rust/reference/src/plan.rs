@@ -1,4 +1,5 @@
-//! The plan: three figures and a tree of hubs, read from a text and drawn.
+//! The plan: three figures, perhaps a framing, and a tree of hubs, read from a
+//! text and drawn.
 
 use crate::text::{Line, Lines};
 use std::ops::RangeInclusive;
@@ -7,8 +8,6 @@ use std::ops::RangeInclusive;
 pub const FRAMES: RangeInclusive<u64> = 100_000..=4_000_000;
 /// "O, the overhead of one packet, is 0 to 50,000."
 pub const OVERHEADS: RangeInclusive<u64> = 0..=50_000;
-/// The longest packet, in bits: D "is 12,000 + O to T".
-pub const LONGEST_PACKET: u64 = 12_000;
 /// "Limits: 32 hubs".
 pub const MOST_HUBS: usize = 32;
 /// "1 to 32 ports in a hub".
@@ -19,6 +18,43 @@ pub const MOST_NODES: usize = 256;
 pub const MOST_LEVELS: usize = 5;
 /// "Hub 1 is the root."
 pub const ROOT: usize = 1;
+
+/// What a framing line says (slip 3 of document 02): "`(framing 3)` or
+/// `(framing 5)`; without it, 3 is meant".
+#[derive(Clone, Copy, Debug, Default, PartialEq, Eq)]
+pub enum Framing {
+    /// 3, the frames of 802.3.
+    #[default]
+    Ethernet,
+    /// 5: "802.5 frames of up to 4,500 bytes".
+    TokenRing,
+}
+
+impl Framing {
+    /// Both, by their numbers.
+    pub const BOTH: [Framing; 2] = [Framing::Ethernet, Framing::TokenRing];
+
+    /// The framing of a number; none where it "is neither 3 nor 5".
+    pub fn of(number: u64) -> Option<Framing> {
+        Framing::BOTH.into_iter().find(|framing| framing.number() == number)
+    }
+
+    /// Its number on the framing line.
+    pub fn number(self) -> u64 {
+        match self {
+            Framing::Ethernet => 3,
+            Framing::TokenRing => 5,
+        }
+    }
+
+    /// Its longest packet, in bits.
+    pub fn longest_packet(self) -> u64 {
+        match self {
+            Framing::Ethernet => 12_000,
+            Framing::TokenRing => 36_000,
+        }
+    }
+}
 
 /// "A port is `(node)`, `(empty)` or a hub."
 #[derive(Clone, Copy, Debug, PartialEq, Eq)]
@@ -52,6 +88,8 @@ pub struct Plan {
     pub overhead: u64,
     /// D, "the longest time that a packet in progress can hold the line".
     pub interrupt: u64,
+    /// What the framing line says; none where the plan doesn't have the line.
+    pub framing_line: Option<Framing>,
     /// N, the number of nodes.
     pub nodes: usize,
     /// The hubs; hub h is `hubs[h - 1]`.
@@ -63,10 +101,21 @@ pub struct Plan {
 pub struct Passed;
 
 impl Plan {
-    /// A plan with its root, which has no port yet.
+    /// A plan without a framing line, and its root, which has no port yet.
     pub fn new(frame: u64, overhead: u64, interrupt: u64) -> Plan {
         let root = Hub { ports: Vec::new(), parent: None, level: 1 };
-        Plan { frame, overhead, interrupt, nodes: 0, hubs: vec![root] }
+        Plan { frame, overhead, interrupt, framing_line: None, nodes: 0, hubs: vec![root] }
+    }
+
+    /// The plan's framing: "without it, 3 is meant".
+    pub fn framing(&self) -> Framing {
+        self.framing_line.unwrap_or_default()
+    }
+
+    /// The longest packet, in bits: "the check of a length now takes the longest
+    /// packet from the plan, and so does everything that relied on 12,000".
+    pub fn longest_packet(&self) -> u64 {
+        self.framing().longest_packet()
     }
 
     /// Hub h.
@@ -143,7 +192,7 @@ pub struct Taken {
 pub struct Refused {
     /// The line refused.
     pub line: u64,
-    /// The row's number: 1, 2 or 3.
+    /// The row's number: 1 to 4.
     pub number: u32,
 }
 
@@ -151,15 +200,7 @@ pub struct Refused {
 /// the first row, decides."
 pub fn read(text: &[u8]) -> Result<Taken, Refused> {
     let mut lines = Lines::new(text);
-    // "First `(frame T)`, then `(overhead O)`, then `(interrupt D)`, then one hub."
-    let frame = figure(&mut lines, "frame", FRAMES)?;
-    let overhead = figure(&mut lines, "overhead", OVERHEADS)?;
-    let interrupt = figure(&mut lines, "interrupt", LONGEST_PACKET + overhead..=frame)?;
-    let line = next(&mut lines)?;
-    if !line.is(b"(hub") {
-        return Err(Refused { line: line.number, number: 1 });
-    }
-    let mut plan = Plan::new(frame, overhead, interrupt);
+    let mut plan = header(&mut lines)?;
     let mut open = Some(ROOT);
     while let Some(h) = open {
         let line = next(&mut lines)?;
@@ -179,6 +220,37 @@ pub fn read(text: &[u8]) -> Result<Taken, Refused> {
         }
     }
     Ok(Taken { plan, at: lines.at, line: lines.number })
+}
+
+/// The lines down to the root's `(hub`: "First `(frame T)`, then `(overhead O)`,
+/// then `(interrupt D)`, then one hub", and by slip 3 perhaps a framing line "as
+/// its fourth line".
+fn header(lines: &mut Lines) -> Result<Plan, Refused> {
+    let frame = figure(lines, "frame", FRAMES)?;
+    let overhead = figure(lines, "overhead", OVERHEADS)?;
+    // "D [..] is 12,000 + O to T" on its own line, whatever the framing.
+    let least = Framing::Ethernet.longest_packet() + overhead;
+    let interrupt = figure(lines, "interrupt", least..=frame)?;
+    let mut plan = Plan::new(frame, overhead, interrupt);
+    let mut line = next(lines)?;
+    if let Some([number]) = line.form("framing") {
+        plan.framing_line = Some(framing(&plan, line.number, number)?);
+        line = next(lines)?;
+    }
+    if !line.is(b"(hub") {
+        return Err(Refused { line: line.number, number: 1 });
+    }
+    Ok(plan)
+}
+
+/// The framing of a line `(framing number)`: row 4, "the number is neither 3 nor
+/// 5, after 1; a D too small for framing 5 is 2 on the framing line, after 4".
+fn framing(plan: &Plan, line: u64, number: u64) -> Result<Framing, Refused> {
+    let framing = Framing::of(number).ok_or(Refused { line, number: 4 })?;
+    if plan.interrupt < framing.longest_packet() + plan.overhead {
+        return Err(Refused { line, number: 2 });
+    }
+    Ok(framing)
 }
 
 /// The next line; row 1 where "the text ends early (line after the last)".
@@ -202,6 +274,9 @@ fn figure(lines: &mut Lines, word: &str, range: RangeInclusive<u64>) -> Result<u
 pub fn draw(plan: &Plan) -> String {
     let mut text =
         format!("(frame {})\n(overhead {})\n(interrupt {})\n", plan.frame, plan.overhead, plan.interrupt);
+    if let Some(framing) = plan.framing_line {
+        text.push_str(&format!("(framing {})\n", framing.number()));
+    }
     draw_hub(plan, ROOT, &mut text);
     text
 }

@@ -7,6 +7,7 @@ pub fn shrink(text: &[u8], mut fails: impl FnMut(&[u8]) -> bool) -> Vec<u8> {
     loop {
         let before = text.clone();
         text = drop_lines(&text, &mut fails);
+        text = lower_framing(text, &mut fails);
         text = lower_numbers(text, &mut fails);
         if text == before {
             return text;
@@ -33,6 +34,20 @@ fn drop_lines(text: &[u8], fails: &mut impl FnMut(&[u8]) -> bool) -> Vec<u8> {
             return lines.concat();
         }
         run = run.div_ceil(2);
+    }
+}
+
+/// Framing 5 becomes 3 before any number is lowered: it decides how low D, which
+/// stands above it, may go.
+fn lower_framing(text: Vec<u8>, fails: &mut impl FnMut(&[u8]) -> bool) -> Vec<u8> {
+    let mut lines: Vec<&[u8]> = text.split_inclusive(|&byte| byte == b'\n').collect();
+    let Some(line) = lines.iter_mut().find(|line| **line == b"(framing 5)\n") else { return text };
+    *line = b"(framing 3)\n";
+    let tried = lines.concat();
+    if fails(&tried) {
+        tried
+    } else {
+        text
     }
 }
 

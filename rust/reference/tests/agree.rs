@@ -22,6 +22,8 @@ struct Met {
     quiet: u64,
     most_moves: u64,
     most_levels: u64,
+    /// Grants of packets that only framing 5 has, by class.
+    long: [u64; 2],
     /// Steps that take fewer moves than by the root, and how many fewer.
     savings: u64,
     saved: u64,
@@ -74,6 +76,9 @@ fn agree(seed: u64, calls: u64, met: &mut Met) {
         assert_eq!(fast.call(call), answer.without_moves(), "fast, {}", at());
         assert!(answer.moves() <= 4 * (levels - 1), "moves {}, {}", answer.moves(), at());
         met.count(answer);
+        if let Answer::Grant { time, class, end, .. } = answer {
+            met.long[class as usize] += u64::from(end - time > plan.overhead + 12_000);
+        }
         caller.hear(call, answer);
     }
 }
@@ -96,6 +101,7 @@ fn the_hubs_agree() {
     assert!(met.grants.iter().all(|&grants| grants > 5_000), "{met:?}");
     assert!(met.rests > 5_000 && met.quiet > 5_000 && met.taken > 50_000, "{met:?}");
     assert!(met.most_levels == 5 && met.most_moves >= 12, "{met:?}");
+    assert!(met.long.iter().all(|&long| long > 1_000), "{met:?}");
     assert!(met.savings > 1_000, "{met:?}");
 }
 

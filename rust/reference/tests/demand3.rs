@@ -1,14 +1,14 @@
-//! Demand 3 on random lists, and the watch against document 01's words taken
-//! literally.
+//! Demand 3 on random lists over plans of both framings, and the watch against
+//! document 01's words taken literally.
 
 mod common;
 
-use common::{flat, plan, Lowest};
+use common::{flat, framed, plan, Lowest};
 use reference::core::Class;
 use reference::demand3::{measure, Held, Watch};
 use reference::fast::Fast;
 use reference::hub::{Answer, Call, Calls, Hub};
-use reference::plan::Plan;
+use reference::plan::{Framing, Plan};
 use reference::random::calls::{list, Caller, Style};
 use reference::random::{plans, Random};
 
@@ -137,6 +137,7 @@ impl Words<'_> {
 /// event and grants anyone at any time.
 struct Any {
     clock: u64,
+    longest: u64,
     asked: Vec<Option<Class>>,
     random: Random,
 }
@@ -151,7 +152,7 @@ impl Calls for Any {
         let (k, class) = match call {
             Call::Step { .. } => return self.step(t),
             Call::Until { .. } => (1, self.asked[0]),
-            Call::Reserve { k, n, b, .. } if n <= 64 && b <= 12_000 && (1..=nodes).contains(&k) => {
+            Call::Reserve { k, n, b, .. } if n <= 64 && b <= self.longest && (1..=nodes).contains(&k) => {
                 (k, self.asked[k as usize - 1])
             }
             Call::Reserve { .. } => return Answer::Refused(14),
@@ -188,7 +189,7 @@ impl Any {
 fn small(random: &mut Random) -> Plan {
     let mut small = plans::small_plan(random, 4);
     small.overhead = random.one_of(&[0, 1_000, 10_000]);
-    small.interrupt = 12_000 + small.overhead;
+    small.interrupt = small.longest_packet() + small.overhead;
     small.frame = 100_000;
     small
 }
@@ -197,7 +198,10 @@ fn hub(which: u64, plan: &Plan) -> Box<dyn Calls> {
     match which {
         0 => Box::new(flat(plan)),
         1 => Box::new(Hub::new(plan, Lowest(plan.nodes))),
-        _ => Box::new(Any { clock: 0, asked: vec![None; plan.nodes], random: Random::new(which) }),
+        _ => {
+            let longest = plan.longest_packet();
+            Box::new(Any { clock: 0, longest, asked: vec![None; plan.nodes], random: Random::new(which) })
+        }
     }
 }
 
@@ -214,7 +218,7 @@ fn short_list(plan: &Plan, random: &mut Random, hub: impl Fn() -> Box<dyn Calls>
 
 #[test]
 fn the_watch_finds_what_the_words_say() {
-    let (mut held, mut broken, mut without) = (0, 0, 0);
+    let (mut held, mut broken, mut without) = ([0; 2], 0, 0);
     for seed in 0..600 {
         let mut random = Random::new(seed);
         let plan = small(&mut random);
@@ -234,7 +238,7 @@ fn the_watch_finds_what_the_words_say() {
                 let mut found = measure(&plan, &list);
                 found.sort_by_key(|held| (held.node, held.frame));
                 assert_eq!(found, Words { plan: &plan, list: &list }.all(), "seed {seed}, length {length}");
-                held += found.len();
+                held[plan.framing() as usize] += found.len();
                 broken += found.iter().filter(|held| !held.kept()).count();
                 without += found.iter().filter(|held| held.grants == 0).count();
                 assert!(
@@ -244,8 +248,8 @@ fn the_watch_finds_what_the_words_say() {
             }
         }
     }
-    println!("held {held}, of these broken {broken}, without a grant {without}");
-    assert!(held > 1_000 && broken > 100 && without > 50);
+    println!("held {held:?}, of these broken {broken}, without a grant {without}");
+    assert!(held.iter().all(|&held| held > 1_000) && broken > 100 && without > 50);
 }
 
 /// A packet of the greatest length in progress, and everybody else before k in
@@ -254,8 +258,9 @@ fn the_watch_finds_what_the_words_say() {
 /// leaves none: the clock is then "at most f × T" still.
 #[test]
 fn the_limit_can_be_met_exactly() {
-    for (time, slack) in [(199_999, 1), (200_000, 0)] {
-        let plan = plan(common::PLAN);
+    let times = Framing::BOTH.map(|framing| [(framing, 199_999, 1), (framing, 200_000, 0)]);
+    for (framing, time, slack) in times.into_iter().flatten() {
+        let plan = plan(&framed(framing));
         let mut hub = Fast::new(&plan);
         let mut list = Vec::new();
         let mut call = |call: Call| {
@@ -265,7 +270,7 @@ fn the_limit_can_be_met_exactly() {
         for (k, n) in (1..).zip([3, 1, 2, 3]) {
             call(Call::Reserve { t: 0, k, n, b: 3_000 });
         }
-        call(Call::Normal { t: time, k: 1, b: 12_000 });
+        call(Call::Normal { t: time, k: 1, b: framing.longest_packet() });
         call(Call::Step { t: time + 1 });
         for k in 1..=4 {
             call(Call::High { t: time, k, b: 3_000 });
@@ -277,26 +282,44 @@ fn the_limit_can_be_met_exactly() {
         let found = measure(&plan, &list);
         let slacks: Vec<_> = found.iter().map(|held| (held.node, held.frame, held.slack())).collect();
         assert_eq!(slacks.len(), 4);
-        assert_eq!(slacks[3], (4, 2, Some(slack)), "{slacks:?}");
+        assert_eq!(slacks[3], (4, 2, Some(slack)), "{framing:?}: {slacks:?}");
         assert!(found.iter().all(|held| held.kept()));
     }
 }
 
 #[test]
 fn an_unfair_hub_breaks_it() {
-    let mut broken = 0;
-    for seed in 0..200 {
+    let mut broken = [0; 2];
+    for seed in 0..2_000 {
         let plan = small(&mut Random::new(seed));
         let mut hub = Hub::new(&plan, Lowest(plan.nodes));
         let list = list(&plan, seed, Style::Loaded, 2_000, &mut hub);
+        let held = measure(&plan, &list);
+        broken[plan.framing() as usize] += held.iter().filter(|held| !held.kept()).count();
+    }
+    println!("broken {broken:?}");
+    assert!(broken.iter().all(|&broken| broken >= 50));
+}
+
+/// A D that framing 5 refuses on its line: the packet in progress may be longer.
+#[test]
+fn a_d_too_small_for_the_framing_breaks_it() {
+    let mut broken = 0;
+    for seed in 0..200 {
+        let mut plan = small(&mut Random::new(seed));
+        plan.framing_line = Some(Framing::TokenRing);
+        plan.interrupt = Framing::Ethernet.longest_packet() + plan.overhead;
+        let list = list(&plan, seed, Style::Loaded, 2_000, &mut flat(&plan));
         broken += measure(&plan, &list).iter().filter(|held| !held.kept()).count();
     }
     println!("broken {broken}");
     assert!(broken > 20);
 }
 
+/// Nodes and frames for which demand 3 is looked at, by framing: reserved,
+/// unbroken, held.
 fn random_lists(seeds: std::ops::Range<u64>, calls: u64) {
-    let (mut least, mut total) = (i64::MAX, [0; 3]);
+    let (mut least, mut total) = ([i64::MAX; 2], [[0; 3]; 2]);
     for seed in seeds {
         let mut random = Random::new(seed);
         let plan = plans::plan(&mut random);
@@ -310,16 +333,17 @@ fn random_lists(seeds: std::ops::Range<u64>, calls: u64) {
             watch.hear(call, answer);
         }
         let tally = watch.tally;
-        for (sum, one) in total.iter_mut().zip([tally.reserved, tally.unbroken, tally.held]) {
+        let framing = plan.framing() as usize;
+        for (sum, one) in total[framing].iter_mut().zip([tally.reserved, tally.unbroken, tally.held]) {
             *sum += one;
         }
         for held in watch.end() {
             assert!(held.kept() && held.grants == held.n, "seed {seed}: {held:?}");
-            least = least.min(held.slack().unwrap());
+            least[framing] = least[framing].min(held.slack().unwrap());
         }
     }
-    println!("reserved, unbroken, held: {total:?}; least slack {least}");
-    assert!(total[2] > 10_000);
+    println!("reserved, unbroken, held: {total:?}; least slack {least:?}");
+    assert!(total.iter().all(|total| total[2] > 10_000));
 }
 
 #[test]

@@ -2,11 +2,11 @@
 
 mod common;
 
-use common::{control, flat, PLAN};
+use common::{control, flat, framed, numbers, PLAN};
 use reference::fast::Fast;
 use reference::log::{log, log_of};
 use reference::peer::{self, Peer};
-use reference::plan::{draw, read, Taken};
+use reference::plan::{draw, read, Framing, Taken};
 use reference::random::{plans, texts, Random};
 use reference::shrink::shrink;
 use std::collections::BTreeMap;
@@ -62,7 +62,7 @@ fn random_texts_have_one_log() {
         }
     }
     println!("{refused:?}");
-    for (bad_plan, number) in [(true, 1), (true, 2), (true, 3), (false, 1), (false, 11)] {
+    for (bad_plan, number) in [(true, 1), (true, 2), (true, 3), (true, 4), (false, 1), (false, 11)] {
         assert!(refused[&(bad_plan, number.to_string())] > 20, "{refused:?}");
     }
     for number in 13..=17 {
@@ -86,4 +86,31 @@ fn a_failing_text_shrinks() {
     let short = String::from_utf8(shrink(text.as_bytes(), over)).unwrap();
     let figures = "(frame 100000)\n(overhead 0)\n(interrupt 12000)\n";
     assert!(short.starts_with(figures) && short.ends_with("(reserve 0 1 8 11001)\n"), "{short}");
+}
+
+/// A grant of a packet that only framing 5 has.
+fn grants_a_longer_packet(text: &[u8]) -> bool {
+    let Ok(Taken { plan, .. }) = read(text) else { return false };
+    let log = String::from_utf8(log(text)).unwrap();
+    let mut grants = log.lines().filter_map(|line| numbers(line, "(grant "));
+    grants.any(|grant| grant[3] - grant[0] > plan.overhead + 12_000)
+}
+
+/// Where a failure doesn't need the framing line it goes; where it needs a line
+/// there it becomes framing 3, and D its least; where it needs framing 5 it stays.
+#[test]
+fn a_framing_line_shrinks() {
+    let shrunk = |text: &str, fails: fn(&[u8]) -> bool| {
+        let short = String::from_utf8(shrink(text.as_bytes(), fails)).unwrap();
+        short.strip_prefix("(frame 100000)\n(overhead 0)\n").expect(&short).to_string()
+    };
+    let text = format!("{}(reserve 99 1 29 12000)\n", framed(Framing::TokenRing));
+    let short = shrunk(&text, |text| log(text).ends_with(b" 17)\n"));
+    assert_eq!(short, "(interrupt 12000)\n(hub\n(node)\n)\n(reserve 0 1 8 11001)\n");
+    let short = shrunk(&text, |text| log(text).ends_with(b"(refused 13 17)\n"));
+    assert!(short.starts_with("(interrupt 12000)\n(framing 3)\n(hub\n"), "{short}");
+    let text = format!("{}(normal 99 1 36000)\n(until 100)\n", framed(Framing::TokenRing));
+    let short = shrunk(&text, grants_a_longer_packet);
+    let events = "(normal 0 1 12001)\n(until 1)\n";
+    assert_eq!(short, format!("(interrupt 36000)\n(framing 5)\n(hub\n(node)\n)\n{events}"));
 }

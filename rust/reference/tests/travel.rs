@@ -107,8 +107,8 @@ fn lists(seeds: std::ops::Range<u64>, calls: u64) -> Met {
 
 #[test]
 fn runs_keep_their_bound_and_meet_it() {
-    let met = lists(0..5_000, 400);
-    assert!(met.runs > 1_000_000 && met.longest > 100 && met.most_hubs == 32, "{met:?}");
+    let met = lists(0..25_000, 400);
+    assert!(met.runs > 5_000_000 && met.longest > 100 && met.most_hubs == 32, "{met:?}");
     assert!((0..4).all(|returns| met.met.get(&returns).is_some_and(|&runs| runs > 100)), "{met:?}");
 }
 

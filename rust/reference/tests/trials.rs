@@ -3,12 +3,12 @@
 
 mod common;
 
-use common::{grant, hubs, plan, PLAN};
+use common::{framed, grant, hubs, plan, PLAN};
 use reference::control::{Control, Turning};
 use reference::hub::Answer::{self, Quiet, Refused, Rest, Taken};
 use reference::hub::Call::{self, High, Normal, Off, Reserve, Step, Until};
 use reference::hub::Hub;
-use reference::plan::{read, Plan};
+use reference::plan::{read, Framing, Plan};
 
 /// These calls get these answers.
 fn trial(plan: &Plan, table: &[(Call, Answer)]) {
@@ -86,6 +86,10 @@ fn m4_a_change_of_class_and_back() {
 fn m5_admission() {
     trial(&plan(PLAN), &[(Reserve { t: 0, k: 1, n: 29, b: 2000 }, Taken)]);
     trial(&plan(PLAN), &[(Reserve { t: 0, k: 1, n: 29, b: 2001 }, Refused(17))]);
+    // By framing 5: 37,000 + 21 × 3,000 = 100,000.
+    let token_ring = plan(&framed(Framing::TokenRing));
+    trial(&token_ring, &[(Reserve { t: 0, k: 1, n: 21, b: 2000 }, Taken)]);
+    trial(&token_ring, &[(Reserve { t: 0, k: 1, n: 21, b: 2001 }, Refused(17))]);
 }
 
 #[test]
@@ -104,11 +108,43 @@ fn m6_packets_a_frame() {
 
 #[test]
 fn m7_lengths() {
-    for (b, answer) in [(512, Taken), (12_000, Taken), (511, Refused(15)), (12_001, Refused(15))] {
-        trial(&plan(PLAN), &[(Normal { t: 0, k: 1, b }, answer), (Reserve { t: 0, k: 1, n: 1, b }, answer)]);
-        let high = if answer == Taken { Refused(16) } else { answer };
-        trial(&plan(PLAN), &[(High { t: 0, k: 1, b }, high)]);
+    let plans =
+        [(PLAN.into(), 12_000), (framed(Framing::Ethernet), 12_000), (framed(Framing::TokenRing), 36_000)];
+    for (text, longest) in plans {
+        let plan = plan(&text);
+        for b in [511, 512, 11_999, 12_000, 12_001, 35_999, 36_000, 36_001, 65_536 + 512, u64::MAX] {
+            let answer = if (512..=longest).contains(&b) { Taken } else { Refused(15) };
+            trial(&plan, &[(Normal { t: 0, k: 1, b }, answer), (Reserve { t: 0, k: 1, n: 1, b }, answer)]);
+            let high = if answer == Taken { Refused(16) } else { answer };
+            trial(&plan, &[(High { t: 0, k: 1, b }, high)]);
+        }
     }
+}
+
+/// A frame by framing 5, worked out by hand: the longest packets of both classes,
+/// D kept free, and one bit more than was reserved.
+#[test]
+fn the_longest_packets_of_framing_5() {
+    let normal = |t, k| (Normal { t, k, b: 36_000 }, Taken);
+    trial(
+        &plan(&framed(Framing::TokenRing)),
+        &[
+            // 37,000 + 37,000 + 26,000 = 100,000.
+            (Reserve { t: 0, k: 3, n: 1, b: 36_000 }, Taken),
+            (Reserve { t: 0, k: 4, n: 1, b: 25_001 }, Refused(17)),
+            (Reserve { t: 0, k: 4, n: 1, b: 25_000 }, Taken),
+            normal(99_999, 1),
+            (ALL, grant(99_999, 1, 1, 136_999, 0)),
+            (High { t: 100_000, k: 4, b: 25_001 }, Refused(16)),
+            (High { t: 100_000, k: 4, b: 25_000 }, Taken),
+            (High { t: 100_000, k: 3, b: 36_000 }, Taken),
+            (ALL, grant(136_999, 3, 2, 173_999, 1)),
+            (ALL, grant(173_999, 4, 2, 199_999, 1)),
+            normal(173_999, 2),
+            (ALL, grant(199_999, 2, 1, 236_999, 1)),
+            (ALL, Rest { time: 236_999, moves: 1 }),
+        ],
+    );
 }
 
 #[test]
@@ -173,6 +209,8 @@ fn m11_a_change_of_class_turns_at_the_nearest_hub() {
 fn m10_plans() {
     let figures = PLAN.replace("13000", "12999");
     assert_eq!(read(figures.as_bytes()).map_err(|refused| (refused.line, refused.number)), Err((3, 2)));
+    let token_ring = framed(Framing::TokenRing).replace("37000", "36999");
+    assert_eq!(read(token_ring.as_bytes()).map_err(|refused| (refused.line, refused.number)), Err((4, 2)));
     let six = format!("{}{}(node)\n", &PLAN[..PLAN.find("(hub").unwrap()], "(hub\n".repeat(6));
     assert_eq!(read(six.as_bytes()).map_err(|refused| (refused.line, refused.number)), Err((9, 3)));
 }

@@ -19,8 +19,8 @@ fn logs_are_given(texts: Vec<PathBuf>, count: usize, log: impl Fn(&[u8]) -> Vec<
 
 #[test]
 fn every_log_is_the_one_given() {
-    logs_are_given(texts_now(), 54, log);
-    logs_are_given(texts_now(), 54, peer::log::log);
+    logs_are_given(texts_now(), 79, log);
+    logs_are_given(texts_now(), 79, peer::log::log);
 }
 
 /// By document 01's own rule 2 every log is the one given before slip 4.

@@ -123,7 +123,7 @@ fn any_call(random: &mut Random, table: &ffi::Cascade) -> Call {
         1 => random.one_of(&[0, 1, 256, 257, u64::MAX, 1 << 32]),
         _ => random.below(258),
     };
-    let b = random.one_of(&[0, 511, 512, 1_000, 12_000, 12_001, u64::MAX]);
+    let b = random.one_of(&[0, 511, 512, 1_000, 12_000, 12_001, 36_000, 36_001, u64::MAX]);
     let n = random.one_of(&[0, 1, 2, 64, 65, u64::MAX]);
     match random.below(8) {
         0 => Call::Normal { t, k, b },

@@ -1,7 +1,7 @@
 //! Lists of calls, one by one and through `lembuya_list`.
 
 use crate::archive::{self, answer, five, on_all, setting, Archive, Fenced};
-use crate::found::{assert_met, count, join};
+use crate::found::{assert_met, count, join, Found};
 use crate::{control, cut_down, FILL_CELL};
 use lembuya::ffi;
 use reference::fast::Fast;
@@ -147,6 +147,22 @@ fn show_list(seed: u64, plan: &Plan, list: &[(Call, Answer)]) -> ! {
     panic!("seed {seed}: {}\n{}", same(&short).unwrap_err(), String::from_utf8_lossy(&short))
 }
 
+fn count_answer(found: &mut Found, plan: &Plan, answer: &Answer) {
+    match answer {
+        Answer::Refused(row) => count(found, format!("row {row}"), 1),
+        Answer::Grant { class, .. } => count(found, format!("grant {class:?}"), 1),
+        Answer::Taken => count(found, "taken", 1),
+        Answer::Rest { .. } => count(found, "rest", 1),
+        Answer::Quiet => count(found, "quiet", 1),
+    }
+    if matches!(answer, Answer::Grant { time, end, .. } if end - time > plan.overhead + 12_000) {
+        count(found, "grant by framing 5 alone", 1);
+    }
+    if answer.moves() >= 12 {
+        count(found, "12 moves or more", 1);
+    }
+}
+
 #[test]
 fn lists_of_calls() {
     const LENGTH: usize = 500;
@@ -162,18 +178,7 @@ fn lists_of_calls() {
                 show_list(seed, &plan, &list);
             }
             count(found, "calls", LENGTH as u64);
-            for (_, answer) in &list {
-                match answer {
-                    Answer::Refused(row) => count(found, format!("row {row}"), 1),
-                    Answer::Grant { class, .. } => count(found, format!("grant {class:?}"), 1),
-                    Answer::Taken => count(found, "taken", 1),
-                    Answer::Rest { .. } => count(found, "rest", 1),
-                    Answer::Quiet => count(found, "quiet", 1),
-                }
-                if answer.moves() >= 12 {
-                    count(found, "12 moves or more", 1);
-                }
-            }
+            list.iter().for_each(|(_, answer)| count_answer(found, &plan, answer));
         },
         join,
     );
@@ -184,7 +189,7 @@ fn lists_of_calls() {
         least,
         &["row 11", "row 12", "row 13", "row 14", "row 15", "row 16", "row 17", "taken"],
     );
-    assert_met(&found, least, &["grant Normal", "grant High", "rest", "quiet"]);
+    assert_met(&found, least, &["grant Normal", "grant High", "grant by framing 5 alone", "rest", "quiet"]);
     assert_met(&found, calls / 100_000, &["12 moves or more"]);
 }
 

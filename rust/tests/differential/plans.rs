@@ -1,13 +1,14 @@
 //! Plans that are taken and refused, and what their tables tell.
 
 use crate::archive::{self, on_all, setting, Archive, Fenced};
-use crate::found::{assert_met, count, join};
-use crate::{cut_down, FILL_CELL};
+use crate::found::{assert_met, count, join, Found};
+use crate::{control, cut_down, FILL_CELL};
+use reference::hub::{Call, Calls};
 use reference::plan;
-use reference::random::{plans, Random};
+use reference::random::{framings, plans, Random};
 
 /// Lines that a plan's line may become.
-const LINES: [&str; 16] = [
+const LINES: [&str; 18] = [
     "(node)",
     "(empty)",
     "(hub",
@@ -24,20 +25,27 @@ const LINES: [&str; 16] = [
     "(frame 100000)",
     "(overhead 0)",
     "(interrupt 12000)",
+    "(framing 3)",
+    "(framing 5)",
 ];
 
-/// Figures about the limits of T, O and D, and such as are no numbers.
-const FIGURES: [&str; 22] = [
+/// Figures about the limits of T, O and D, D's by both framings, and such as are no numbers.
+const FIGURES: [&str; 27] = [
     "0",
     "1",
     "11999",
     "12000",
     "12001",
+    "35999",
+    "36000",
+    "36001",
     "49999",
     "50000",
     "50001",
     "61999",
     "62000",
+    "85999",
+    "86000",
     "99999",
     "100000",
     "100001",
@@ -61,7 +69,7 @@ fn plan_text(random: &mut Random) -> Vec<u8> {
         10 | 11 => fill_up(random, &plan, &mut lines),
         // A figure about the limits.
         3..=5 => {
-            let at = random.place(3);
+            let at = random.place(3 + usize::from(plan.framing_line.is_some()));
             let word = lines[at].split_once(' ').unwrap().0;
             lines[at] = format!("{word} {})", random.one_of(&FIGURES));
         }
@@ -80,6 +88,9 @@ fn plan_text(random: &mut Random) -> Vec<u8> {
     }
     let mut text = lines.join("\n").into_bytes();
     end(random, &mut text);
+    if random.chance(15) {
+        framings::damage(random, &mut text);
+    }
     text
 }
 
@@ -136,10 +147,24 @@ fn end(random: &mut Random, text: &mut Vec<u8>) {
 fn same_tree(text: &[u8], expected: &plan::Plan) -> Result<(), String> {
     let told = lembuya::Plan::read(text).expect("the archive took it");
     let mut tree = plan::Plan::new(told.frame(), told.overhead(), told.interrupt());
+    // Whether framing 3 had its line isn't told.
+    let framing = plan::Framing::of(told.framing().number().into()).expect("3 or 5");
+    tree.framing_line = expected.framing_line.and(Some(framing));
     tree.nodes = told.nodes() as usize;
     tree.hubs = (1..=told.hubs()).map(|hub| of_reference(told.hub(hub).expect("up to H"))).collect();
     if tree != *expected {
         return Err(format!("reference: {expected:?}\narchive: {tree:?}"));
+    }
+    let (found, known) = ((framing, told.longest_packet()), (expected.framing(), expected.longest_packet()));
+    if found != known {
+        return Err(format!("reference: {known:?}\narchive: {found:?}"));
+    }
+    for b in [12_000, 12_001, 36_000, 36_001] {
+        let call = Call::Normal { t: 0, k: 1, b };
+        let (found, known) = (Archive::new(expected).call(call), control(expected).call(call));
+        if found != known {
+            return Err(format!("{call:?}\nreference: {known:?}\narchive: {found:?}"));
+        }
     }
     // The reference has no table of nodes: a node's place is where its port is.
     let place = |hub, at| Some(lembuya::Place { hub: hub as u64 + 1, port: at as u64 + 1 });
@@ -197,6 +222,23 @@ fn same_plan(text: &[u8]) -> Result<(), String> {
     Ok(())
 }
 
+fn count_taken(found: &mut Found, plan: &plan::Plan) {
+    count(found, "taken", 1);
+    let framing = plan.framing_line.map_or(0, |framing| framing.number());
+    count(found, format!("framing line {framing}"), 1);
+    count(found, format!("levels {}", plan.levels()), 1);
+    count(found, "256 nodes", u64::from(plan.nodes == 256));
+    count(found, "32 hubs", u64::from(plan.hubs.len() == 32));
+}
+
+/// By row, and once more those on the line where a framing's may stand.
+fn count_refused(found: &mut Found, refused: &plan::Refused) {
+    count(found, format!("row {}", refused.number), 1);
+    if refused.line == 4 {
+        count(found, format!("row {} on line 4", refused.number), 1);
+    }
+}
+
 #[test]
 fn plans_are_taken_and_refused_alike() {
     let plans = setting("LEMBUYA_TEXTS", 10_000) * 4;
@@ -215,12 +257,9 @@ fn plans_are_taken_and_refused_alike() {
             match plan::read(&text) {
                 Ok(taken) => {
                     same_tree(&text, &taken.plan).unwrap_or_else(|wrong| panic!("seed {seed}: {wrong}"));
-                    count(found, "taken", 1);
-                    count(found, format!("levels {}", taken.plan.levels()), 1);
-                    count(found, "256 nodes", u64::from(taken.plan.nodes == 256));
-                    count(found, "32 hubs", u64::from(taken.plan.hubs.len() == 32));
+                    count_taken(found, &taken.plan);
                 }
-                Err(refused) => count(found, format!("row {}", refused.number), 1),
+                Err(refused) => count_refused(found, &refused),
             }
         },
         join,
@@ -230,6 +269,8 @@ fn plans_are_taken_and_refused_alike() {
     assert_met(
         &found,
         least,
-        &["taken", "row 1", "row 2", "row 3", "256 nodes", "32 hubs", "levels 1", "levels 5"],
+        &["taken", "row 1", "row 2", "row 3", "row 4", "256 nodes", "32 hubs", "levels 1", "levels 5"],
     );
+    assert_met(&found, least, &["framing line 0", "framing line 3", "framing line 5"]);
+    assert_met(&found, least, &["row 1 on line 4", "row 4 on line 4", "row 2 on line 4"]);
 }

@@ -18,12 +18,14 @@ fn small_texts() -> Vec<Vec<u8>> {
         plan.into(),
         String::new(),
         plan.replace("13000", "12999"),
+        plan.replace("13000)", "37000)\n(framing 5)") + "(normal 0 1 36000)\n(normal 0 2 36001)\n(until 1)\n",
+        plan.replace("13000)", "37000)\n(framing 4)"),
         format!("{plan}(until 1000000000000000)\n(normal 1000000000000000 4 512)\n(until 999)\nend"),
     ]
     .map(String::into_bytes)
     .into();
     let mut random = Random::new(7);
-    while texts.len() < 12 {
+    while texts.len() < 14 {
         let text = texts::text(&mut random);
         if (100..3_000).contains(&log(&text).len()) {
             texts.push(text);

@@ -126,7 +126,7 @@ fn whole_logs() {
     assert_met(
         &found,
         least,
-        &["nodes", "grant", "rest", "plan 1", "plan 2", "plan 3", "longer than is read"],
+        &["nodes", "grant", "rest", "plan 1", "plan 2", "plan 3", "plan 4", "longer than is read"],
     );
     assert_met(
         &found,

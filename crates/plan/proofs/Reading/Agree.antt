@@ -22,9 +22,9 @@ use Rattle.plan_tree.specs.declared.Part.{Part}
 use Rattle.plan_tree.specs.declared.Part.the-variants.{Read, Stopped}
 use Rattle.plan_tree.specs.Kind.{kindOf}
 use Rattle.plan_tree.specs.Tables.{putEmpty, putNode, putHub, putPorts}
-use Rattle.plan.specs.Tables.{putFigures}
+use Rattle.plan.specs.Tables.{Figures, putFigures}
 use Rattle.plan.specs.Reading as reading
-use Rattle.plan.specs.Reading.{Open, Progress, Figures, hubLines, passes, byKind, refusal, next}
+use Rattle.plan.specs.Reading.{Open, Progress, hubLines, passes, byKind, refusal, next}
 use Rattle.plan_tree.specs.Readers.{Answered, stop, read, cursor, moved, withNode, withHub, behindPort, onKind, onNext, hubReader}
 use Rattle.plan.specs.PlanReader.{refused}
 
@@ -53,7 +53,7 @@ module _ (fig : Figures) (text : List ℕ) where
       else
       (record {
         answer = Taken (y .nodes) (y .hubs) (y .at) (y .number);
-        tables = putFigures (fig .frame) (fig .overhead) (fig .interrupt) (y .nodes) (y .hubs) t;
+        tables = putFigures fig (y .nodes) (y .hubs) t;
       })
   going (o ∷ os) k y t = hubLines fig (lines (drop (y .at) text)) (cursor y) (progress o os y t)
 

@@ -1,6 +1,6 @@
 -- The plan read by the scanner and the two readers is the plan read line by line. Assumes nothing.
 use Prim.Native.Nat.{ℕ, _+_, _-_, _≤_, _<_, _^_}
-use mathlib.Core.Path.{_≡_, refl, _∙_}
+use mathlib.Core.Path.{_≡_, refl, ap, _∙_}
 use mathlib.Core.Bool.{Bool, true, false, _&&_, false≢true}
 use mathlib.Core.List.{List, [], _∷_}
 use mathlib.Core.Option.{Option, none, some}
@@ -8,21 +8,24 @@ use native.Mathlib.Omega.{arith}
 use lib.Dec.{leb}
 use lib.ListN.{length, drop, getD}
 use Rattle.rules.specs.Choice.{if_then_else_}
+use Rattle.rules.specs.Plan.{longestIn}
 use Rattle.text.specs.Line.{Lines, nothing, unended, ended, lines, handOut, nextLine}
 use Rattle.text.specs.Word.{isWord}
 use Rattle.text.specs.Form.{readForm, formOf, formAt}
 use Rattle.text.specs.declared.Cursor.{Cursor}
-use Rattle.plan.specs.declared.Figure.the-variants.{Got, Not}
+use Rattle.header.specs.declared.Figure.the-variants.{Got, Not}
+use Rattle.header.specs.Lines.{figureOf, figureIn, figureAt, optionalOf, optionalIn, optionalAt, rootIn, rootAt}
 use Rattle.plan_tree.specs.declared.Place.{Place}
 use Rattle.plan_tree.specs.declared.Part.{Part}
 use Rattle.plan_tree.specs.declared.Part.the-variants.{Read, Stopped}
 use Rattle.plan_tree.specs.Kind.{kindOf, isHub}
-use Rattle.plan.specs.Words.{frame-word, overhead-word, interrupt-word}
+use Rattle.plan.specs.Words.{frame-word, overhead-word, interrupt-word, framing-word}
 use Rattle.plan_tree.specs.Tables.{noTable, putRoot}
 use Rattle.plan.specs.Reading as reading
-use Rattle.plan.specs.Reading.{Figures, next, refusal, onLine, figure, begun, hubLines, rootLine, interruptLine, overheadLine, frameLine}
+use Rattle.plan.specs.Tables.{Figures}
+use Rattle.plan.specs.Reading.{next, refusal, onLine, figure, optional, whereForm, unlessRow, framingRow, begun, hubLines, rootLine, framingLine, interruptLine, overheadLine, frameLine}
 use Rattle.plan_tree.specs.Readers.{Answered, hubReader}
-use Rattle.plan.specs.PlanReader.{figureOf, figureIn, figureAt, rootIn, rootAt, planOver, behindFigure, behindRoot, hubAt, interruptAt, overheadAt, planBy}
+use Rattle.plan.specs.PlanReader.{planOver, behindFigure, behindOptional, behindRoot, hubAt, framingAt, interruptAt, overheadAt, planBy}
 use Rattle.plan.proofs.Reading.Agree.{First, first, over, Moves, hub-agrees}
 
 module _ (text : List ℕ) where
@@ -57,6 +60,30 @@ module _ (text : List ℕ) where
           go nothing e = refl
           go (unended l) e = refl
           go (ended l rest) e = let f = first text c l rest e in rw (f .bytes) (formed l rest f (readForm word 1 l))
+
+  -- a line that may be missing, where the readers of what follows agree with it and without it
+  module _
+      (c : Cursor) (early : Early c) (word : List ℕ) (count : ℕ) (says : Lines → Cursor → ℕ → reading.Read) (absent : Lines → Cursor → reading.Read)
+      (goes-on : ℕ → Cursor → reading.Read) (without : reading.Read)
+      (agree : (x : ℕ) (d : Cursor) → Early d → says (lines (drop (d .at) text)) d x ≡ goes-on x d) (same : absent (lines (drop (c .at) text)) c ≡ without)
+    where
+      optional-formed : (l : List ℕ) (rest : Lines) → First text c l rest → (o : Option (List ℕ))
+          → whereForm o (says rest (next c l)) without ≡ behindOptional (optionalOf (formOf o) (next c l)) goes-on without
+      unfolding formOf
+      optional-formed l rest f none = refl
+      optional-formed l rest f (some ns) = rw (← (f .behind)) (agree (getD ns 0 0) (next c l) (omega arith))
+
+      optional-agrees : optional word count (lines (drop (c .at) text)) (λ l rest x. says rest (next c l) x) (absent (lines (drop (c .at) text)) c)
+          ≡ behindOptional (optionalAt text c word count) goes-on without
+      unfolding optionalAt nextLine handOut formAt
+      optional-agrees = rw same (go (lines (drop (c .at) text)) refl)
+        where
+          go : (ls : Lines) → lines (drop (c .at) text) ≡ ls
+              → optional word count ls (λ l rest x. says rest (next c l) x) without
+              ≡ behindOptional (optionalIn text (handOut c ls) word count) goes-on without
+          go nothing e = refl
+          go (unended l) e = refl
+          go (ended l rest) e = let f = first text c l rest e in rw (f .bytes) (optional-formed l rest f (readForm word count l))
 
 -- the line `(hub` has a byte
 hub-bytes : (l : List ℕ) → isHub (kindOf l) ≡ true → 1 ≤ length l
@@ -100,12 +127,22 @@ module _ (text : List ℕ) (left : ℕ) (enough : length text ≤ left) (fits : 
           let f = first text c l rest e in
           rw (f .bytes) (begins (isHub (kindOf l)) l rest f (hub-bytes l))
 
+  framing-agrees : (T O D : ℕ) (c : Cursor) → Early text c → framingLine T O D (lines (drop (c .at) text)) c ≡ framingAt text left T O D c
+  unfolding framingLine
+  framing-agrees T O D c early =
+      let figures : ℕ → Figures = λ framing. record { frame = T; overhead = O; interrupt = D; framing = framing } in
+      optional-agrees text c early framing-word 1 (λ rest d framing. unlessRow (framingRow O D framing) c (rootLine (figures framing) rest d))
+      (λ rest d. rootLine (figures 3) rest d)
+      (λ framing d. unlessRow (framingRow O D framing) c (hubAt text left (figures framing) d))
+      (hubAt text left (figures 3) c)
+      (λ framing d late. ap (unlessRow (framingRow O D framing) c) (root-agrees (figures framing) d late))
+      (root-agrees (figures 3) c early)
+
   interrupt-agrees : (T O : ℕ) (c : Cursor) → Early text c → interruptLine T O (lines (drop (c .at) text)) c ≡ interruptAt text left T O c
   unfolding interruptLine
   interrupt-agrees T O c early =
-      figure-agrees text c early interrupt-word (12000 + O) T (λ D rest d. rootLine (record { frame = T; overhead = O; interrupt = D }) rest d)
-      (λ D d. hubAt text left (record { frame = T; overhead = O; interrupt = D }) d)
-      (λ D d. root-agrees (record { frame = T; overhead = O; interrupt = D }) d)
+      figure-agrees text c early interrupt-word (longestIn 3 + O) T (λ D rest d. framingLine T O D rest d) (λ D d. framingAt text left T O D d)
+      (λ D d. framing-agrees T O D d)
 
   overhead-agrees : (T : ℕ) (c : Cursor) → Early text c → overheadLine T (lines (drop (c .at) text)) c ≡ overheadAt text left T c
   unfolding overheadLine

@@ -5,7 +5,8 @@ use Prim.Native.Nat.{_+_}
 use lib.ListN.{length}
 use Rattle.plan.specs.Words.{interrupt-word}
 use Rattle.plan.specs.Reading.{Read, leaves}
-use Rattle.plan.proofs.PlanLaws.{figure-range, interrupt-got, interrupt-not}
+use Rattle.plan.proofs.PlanLaws.{interrupt-got, interrupt-not}
+use Rattle.header.proofs.LineLaws.{figure-range}
 use borrow.Author.Needs.{needs}
 use Rattle.plan.proofs.interrupt_at.Statement.{statement}
 use Rattle.plan.proofs.interrupt_at.Tie as tie
@@ -22,8 +23,8 @@ figure-at-requires c κs = search needs
 enum-known-value : tie.Need-enum-known-value
 enum-known-value c = search needs
 
-hub-at-requires : tie.Need-hub-at-requires
-hub-at-requires c κs =
+framing-at-requires : tie.Need-framing-at-requires
+framing-at-requires c κs =
     let a = c .before .before .before .before .before .before .before .args in
     let pre = c .before .before .before .before .before .before .before .pre in
     let v = c .before .before .value .given in
@@ -38,7 +39,7 @@ returns c =
     let a = c .before .before .before .before .before .before .before .before .args in
     let v = c .before .before .before .value .given in
     let e = interrupt-got (a .text .now) (length (a .text .now)) (a .t) (a .o) (a .c) (v .0 .0) (v .0 .1 .0) (sym (c .before .before .before .before .before .figure-at .ensures) ∙ v .1) in
-    (c .hub-at .ensures .0 ∙ sym (ap (λ (r : Read). r .answer) e), c .hub-at .ensures .1 ∙ sym (ap (λ (r : Read). leaves r (a .plan .now)) e))
+    (c .framing-at .ensures .0 ∙ sym (ap (λ (r : Read). r .answer) e), c .framing-at .ensures .1 ∙ sym (ap (λ (r : Read). leaves r (a .plan .now)) e))
 
 returns-2 : tie.Need-returns-2
 returns-2 c =
@@ -55,7 +56,7 @@ interrupt-at-spec =
     add-figure-at
     figure-at-requires
     enum-known-value
-    hub-at-requires
+    framing-at-requires
     enum-known-line
     returns
     returns-2)

@@ -4,7 +4,8 @@ use native.Mathlib.Omega.{arith}
 use lib.ListN.{length}
 use Rattle.plan.specs.Words.{overhead-word}
 use Rattle.plan.specs.Reading.{Read, leaves}
-use Rattle.plan.proofs.PlanLaws.{figure-range, overhead-got, overhead-not}
+use Rattle.plan.proofs.PlanLaws.{overhead-got, overhead-not}
+use Rattle.header.proofs.LineLaws.{figure-range}
 use borrow.Author.Needs.{needs}
 use Rattle.plan.proofs.overhead_at.Statement.{statement}
 use Rattle.plan.proofs.overhead_at.Tie as tie

@@ -1,4 +1,4 @@
--- `put_figures` meets its contract: five stores.
+-- `put_figures` meets its contract: six stores.
 use Rattle.plan.specs.Tables.{putFigures}
 use borrow.Author.Needs.{needs}
 use Rattle.plan.proofs.put_figures.Statement.{statement}
@@ -28,6 +28,12 @@ element-write-s-4 c = search needs
 element-write-s-5 : tie.Need-element-write-s-5
 element-write-s-5 c = search needs
 
+cast-s-4 : tie.Need-cast-s-4
+cast-s-4 c = search needs
+
+element-write-s-6 : tie.Need-element-write-s-6
+element-write-s-6 c = search needs
+
 returns : tie.Need-returns
 unfolding putFigures
 returns c = search needs
@@ -44,4 +50,6 @@ put-figures-spec =
     element-write-s-3
     element-write-s-4
     element-write-s-5
+    cast-s-4
+    element-write-s-6
     returns)

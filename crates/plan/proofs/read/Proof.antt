@@ -4,8 +4,9 @@ use native.Mathlib.Omega.{arith}
 use Rattle.plan.specs.Words.{frame-word}
 use Rattle.plan.specs.Reading.{Read, leaves}
 use Rattle.text.specs.declared.Cursor.{Cursor}
-use Rattle.plan.specs.PlanReader.{figureAt}
-use Rattle.plan.proofs.PlanLaws.{figure-range, frame-got, frame-not, at-first}
+use Rattle.header.specs.Lines.{figureAt}
+use Rattle.plan.proofs.PlanLaws.{frame-got, frame-not, at-first}
+use Rattle.header.proofs.LineLaws.{figure-range}
 use borrow.Author.Needs.{needs}
 use Rattle.plan.proofs.read.Statement.{statement}
 use Rattle.plan.proofs.read.Tie as tie

@@ -9,7 +9,7 @@ use Rattle.text.specs.declared.Cursor.{Cursor}
 use Rattle.plan.specs.declared.Answer.the-variants.{Taken, Refused}
 use Rattle.plan.specs.Reading.{Read}
 use Rattle.plan_theory.specs.First.{firstLines}
-use Rattle.plan_theory.proofs.First.Places.{same-none, same-unended, same-ended, Plans, Follows, Says, says-1, Clean, Step, below, carried, clean-over}
+use Rattle.plan_theory.proofs.First.Places.{same-none, same-unended, same-ended, Plans, Headed, Follows, Says, says-1, Clean, Step, Among, step-over, carried, clean-over, behind-line, at-same-line}
 
 -- the number of the line behind k lines
 unfoldable pub later : ℕ → ℕ → ℕ
@@ -44,13 +44,13 @@ pub record Starts (P : Plans) (f : Lines → Read) (c : Cursor) : Type 0 where
   pub begins : (w : P .What) (r : Lines) → (l : List ℕ) × (after : Lines) × (P .drawn w r ≡ ended l after)
   pub sized : (w : P .What) → 1 ≤ P .size w
   pub what : P .What
-  pub good : P .good what
+  pub headed : Headed P what
   pub fits : P .fits what
 
 module _ (P : Plans) (f : Lines → Read) (c : Cursor) (start : Starts P f c) where
   clean-start : (ls : Lines) → Clean P ls 0
   unfolding firstLines
-  clean-start ls = record { it = record { what = start .what; rest = nothing; same = refl }; good = start .good; fits = start .fits }
+  clean-start ls = record { it = record { what = start .what; rest = nothing; same = refl }; headed = start .headed; fits = start .fits }
 
   whole-start : (ls : Lines) (k : ℕ) (d : Follows P ls k) → P .size (d .what) ≡ k → 0 < k
   whole-start ls k d e = let s = start .sized (d .what) in omega arith
@@ -108,9 +108,9 @@ module _ (P : Plans) (f : Lines → Read) (c : Cursor) (start : Starts P f c) wh
       → (k : ℕ) (d : Follows P (ended l rest) k) → P .size (d .what) ≡ k → suc above < k
   whole-over Q l rest step above h zero d e = absurd (let s = start .sized (d .what) in omega arith)
   whole-over Q l rest step above h (suc k) d e =
-      let b = below P Q l rest step k d in
-      let s = b .tied .size in
-      let z = h k (b .it) (omega arith) in
+      let b = behind-line step rest k .below d in
+      let s = b .1 .size in
+      let z = h k (b .0) (omega arith) in
       omega arith
 
   pub decides-ended : (l : List ℕ) (rest : Lines) → AtLine P f c l rest → Decides P f (ended l rest) (c .number)
@@ -140,14 +140,25 @@ module _ (P : Plans) (f : Lines → Read) (c : Cursor) (start : Starts P f c) wh
         none-below = λ other s.
             (let o = same-ended (suc (D .above)) l rest other s in
             ap (λ (x : Lines). f x .answer) (o .is) ∙ ap (λ (r : Read). r .answer) (h (o .after)) ∙ D .none-below (o .after) (o .same));
-        row = carried P Q l rest step (suc (D .above)) m (D .row);
-        clean = clean-over P Q l rest step (D .above) (D .clean);
+        row = carried (behind-line step rest (suc (D .above))) (D .row);
+        clean = clean-over (behind-line step rest (D .above)) (D .clean);
         whole = whole-over Q l rest step (D .above) (D .whole);
       }
 
+-- a place: how it starts, and what a reading does at each whole line
+pub record Place (P : Plans) (f : Lines → Read) (c : Cursor) : Type 1 where
+  pub starts : Starts P f c
+  pub at-line : (l : List ℕ) (rest : Lines) → AtLine P f c l rest
+
 -- whichever line stands there
-pub decides : (P : Plans) (f : Lines → Read) (c : Cursor) → Starts P f c → ((l : List ℕ) (rest : Lines) → AtLine P f c l rest)
-    → (ls : Lines) → Decides P f ls (c .number)
-decides P f c start at nothing = decides-none P f c start
-decides P f c start at (unended l) = decides-unended P f c start l
-decides P f c start at (ended l rest) = decides-ended P f c start l rest (at l rest)
+pub decides : {P : Plans} {f : Lines → Read} {c : Cursor} → Place P f c → (ls : Lines) → Decides P f ls (c .number)
+decides {P} {f} {c} p nothing = decides-none P f c (p .starts)
+decides {P} {f} {c} p (unended l) = decides-unended P f c (p .starts) l
+decides {P} {f} {c} p (ended l rest) = decides-ended P f c (p .starts) l rest (p .at-line l rest)
+
+-- where the plans that begin with a line are those of another place, and the readings are the same there
+pub same-line : {P Q : Plans} {f g : Lines → Read} {c : Cursor} {l : List ℕ} {rest : Lines} → Among P l Q
+    → ((after : Lines) → f (ended l after) ≡ g (ended l after)) → AtLine Q g c l rest → AtLine P f c l rest
+same-line {rest = rest} a e (says m h row) = says m (λ after. ap (λ (r : Read). r .answer) (e after) ∙ h after) (carried (at-same-line a rest 0) row)
+same-line a e (takes x y at line h) = takes x y at line (λ after. ap (λ (r : Read). r .answer) (e after) ∙ h after)
+same-line a e (goes S step g h d) = goes S (step-over a step) g (λ after. e after ∙ h after) d

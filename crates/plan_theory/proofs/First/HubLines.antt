@@ -17,8 +17,9 @@ use Rattle.text.specs.declared.Cursor.{Cursor}
 use Rattle.plan_tree.specs.declared.Kind.{Kind}
 use Rattle.plan_tree.specs.declared.Kind.the-variants.{Close, Node, Empty, Hub as HubKind, Other}
 use Rattle.plan_tree.specs.Kind.{kindOf, close-word, node-word, empty-word, hub-word}
-use Rattle.plan.specs.Reading.{next, Open, Progress, Figures, passes, addNode, addEmpty, openHub, closeHub, hubLines}
-use Rattle.plan_theory.specs.Tree.{node, empty, hub, Hub, close, port, drawHub, portsOf, nodesAt, nodesIn, hubsAt, hubsIn, levelsAt, levelsIn, widthsAt, goodFigures}
+use Rattle.plan.specs.Tables.{Figures}
+use Rattle.plan.specs.Reading.{next, Open, Progress, passes, addNode, addEmpty, openHub, closeHub, hubLines}
+use Rattle.plan_theory.specs.Tree.{node, empty, hub, Hub, close, port, drawHub, portsOf, nodesAt, nodesIn, hubsAt, hubsIn, levelsAt, levelsIn, widthsAt, goodFigures, goodFraming}
 use Rattle.plan_theory.specs.Behind.{linesAt, linesIn}
 use Rattle.plan_theory.proofs.Tree.Room.{HubRoom, one-hub, one-level}
 use Rattle.plan_theory.proofs.Tree.Trees.{Drawing, kind-line}
@@ -82,7 +83,7 @@ unfolding linesIn
 one-line close = omega arith
 one-line (port x t) = omega (arith, one-line t)
 
-module _ (fig : Figures) (good : goodFigures fig ≡ true) where
+module _ (fig : Figures) (framed : goodFraming fig ≡ true) (good : goodFigures fig ≡ true) where
   module _ (s : Progress) where
     abbrev P : Plans
     P = HubPlans fig s
@@ -93,6 +94,7 @@ module _ (fig : Figures) (good : goodFigures fig ≡ true) where
     node-tied p q t ts =
         record {
           drawn = λ r. refl;
+          framed = (λ g. g, λ g. g);
           good = (λ g. g, λ g. g);
           fits = leaf-room (s .inner) (s .outer) (s .nodes) (s .hubs) t ts node (s .nodes + 1) refl refl refl refl p (omega arith);
           size = omega arith;
@@ -115,6 +117,7 @@ module _ (fig : Figures) (good : goodFigures fig ≡ true) where
     empty-tied p q t ts =
         record {
           drawn = λ r. refl;
+          framed = (λ g. g, λ g. g);
           good = (λ g. g, λ g. g);
           fits = leaf-room (s .inner) (s .outer) (s .nodes) (s .hubs) t ts empty (s .nodes) (omega arith) refl refl refl p q;
           size = omega arith;
@@ -137,6 +140,7 @@ module _ (fig : Figures) (good : goodFigures fig ≡ true) where
     hub-tied p k t ts =
         record {
           drawn = λ r. refl;
+          framed = (λ g. g, λ g. g);
           good = (λ g. g, λ g. g);
           fits = hub-room (s .inner) (s .outer) (s .nodes) (s .hubs) t ts k (s .hubs + 1) p;
           size = omega arith;
@@ -157,7 +161,7 @@ module _ (fig : Figures) (good : goodFigures fig ≡ true) where
     node-passed : (rest : Lines) → passes Node s ≡ true → Says P (ended node-word rest) 1 3
     unfolding drawHub portsOf nodesIn nodesAt
     node-passed rest e =
-        passed P node-word rest (port node close, closing (s .outer)) nothing _ refl good
+        passed P node-word rest (port node close, closing (s .outer)) nothing _ refl (framed, good)
         (λ w r after d f.
         (let u = only-node (w .0) (drawTails (s .outer) (w .1) r) after d in
         let room = subst (λ (x : Hub). HubRoom x (s .inner .ports) (length (s .outer) + 1) (s .nodes) (s .hubs)) (u .1) (f .0) in
@@ -171,7 +175,7 @@ module _ (fig : Figures) (good : goodFigures fig ≡ true) where
     empty-passed : (rest : Lines) → passes Empty s ≡ true → Says P (ended empty-word rest) 1 3
     unfolding drawHub portsOf
     empty-passed rest e =
-        passed P empty-word rest (port empty close, closing (s .outer)) nothing _ refl good
+        passed P empty-word rest (port empty close, closing (s .outer)) nothing _ refl (framed, good)
         (λ w r after d f.
         (let u = only-empty (w .0) (drawTails (s .outer) (w .1) r) after d in
         let room = subst (λ (x : Hub). HubRoom x (s .inner .ports) (length (s .outer) + 1) (s .nodes) (s .hubs)) (u .1) (f .0) in
@@ -180,7 +184,7 @@ module _ (fig : Figures) (good : goodFigures fig ≡ true) where
     hub-passed : (rest : Lines) → passes HubKind s ≡ true → Says P (ended hub-word rest) 1 3
     unfolding drawHub portsOf hubsIn hubsAt levelsIn levelsAt
     hub-passed rest e =
-        passed P hub-word rest (port (hub close) close, closing (s .outer)) nothing _ refl good
+        passed P hub-word rest (port (hub close) close, closing (s .outer)) nothing _ refl (framed, good)
         (λ w r after d f.
         (let u = only-hub (w .0) (drawTails (s .outer) (w .1) r) after d in
         let room = subst (λ (x : Hub). HubRoom x (s .inner .ports) (length (s .outer) + 1) (s .nodes) (s .hubs)) (u .2) (f .0) in
@@ -200,7 +204,7 @@ module _ (fig : Figures) (good : goodFigures fig ≡ true) where
     close-passed : (rest : Lines) → passes Close s ≡ true → Says P (ended close-word rest) 1 3
     unfolding drawHub portsOf
     close-passed rest e =
-        passed P close-word rest (close, closing (s .outer)) nothing _ refl good
+        passed P close-word rest (close, closing (s .outer)) nothing _ refl (framed, good)
         (λ w r after d f.
         (let u = only-close (w .0) (drawTails (s .outer) (w .1) r) after d in
         let room = subst (λ (x : Hub). HubRoom x (s .inner .ports) (length (s .outer) + 1) (s .nodes) (s .hubs)) u (f .0) in
@@ -215,7 +219,7 @@ module _ (fig : Figures) (good : goodFigures fig ≡ true) where
           begins = λ w r. hub-begins (w .0) (drawTails (s .outer) (w .1) r);
           sized = λ w. omega (arith, one-line (w .0));
           what = able-plan s;
-          good = good;
+          headed = (framed, good);
           fits = able-room s a;
         }
 
@@ -272,6 +276,7 @@ module _ (fig : Figures) (good : goodFigures fig ≡ true) where
     close-tied u us a some t ts =
         record {
           drawn = λ r. refl;
+          framed = (λ g. g, λ g. g);
           good = (λ g. g, λ g. g);
           fits = close-room u us n h t ts o some (a .ports) (omega (arith, a .levels)) (a .nodes) (a .hubs);
           size = omega arith;
@@ -296,7 +301,7 @@ module _ (fig : Figures) (good : goodFigures fig ≡ true) where
           → AtLine (HubPlans fig (state [])) (λ x. hubLines fig x c (state [])) c close-word rest
       unfolding hubLines kindOf isWord drawHub linesIn nodesIn
       root-closed p (yes′ z) =
-          says 3 (λ after. rw (p, z)) (nodeless (HubPlans fig (state [])) close-word rest (close, tt) nothing nothing refl good refl (omega (arith, eqb-true n 0 z)))
+          says 3 (λ after. rw (p, z)) (nodeless (HubPlans fig (state [])) close-word rest (close, tt) nothing nothing refl (framed, good) refl (omega (arith, eqb-true n 0 z)))
       root-closed p (no′ z) = takes n h (next c close-word .at) (next c close-word .number) (λ after. rw (p, z))
 
       close-line : (os : List Open) → Able (state os) → Which (passes Close (state os))

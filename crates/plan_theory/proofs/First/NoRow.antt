@@ -2,18 +2,20 @@
 use Prim.Native.Nat.{ℕ, suc, _+_}
 use mathlib.Core.Path.{_≡_, refl, sym, ap, _∙_, subst}
 use mathlib.Core.List.{List, [], _∷_}
+use mathlib.Core.Option.{Option, none, some}
 use native.Mathlib.Omega.{arith}
 use Rattle.rules.proofs.Laws.Passes.{true-false}
 use Rattle.text.specs.Line.{Lines, ended, lines}
 use Rattle.text.specs.Form.{drawForm}
-use Rattle.plan.specs.Words.{frame-word, overhead-word, interrupt-word}
+use Rattle.plan.specs.Words.{frame-word, overhead-word, interrupt-word, framing-word}
 use Rattle.plan_tree.specs.Kind.{close-word, node-word, empty-word, hub-word}
-use Rattle.plan_theory.specs.Tree.{Port, node, empty, hub, Hub, close, port, drawPort, drawHub, draw, nodesIn}
-use Rattle.plan_theory.specs.Behind.{linesAt, linesIn, linesOf}
+use Rattle.plan_theory.specs.Tree.{Port, node, empty, hub, Hub, close, port, drawPort, drawHub, figuresOf, oneNumber, drawOptional, draw, nodesIn}
+use Rattle.plan_theory.specs.Behind.{linesAt, linesIn, linesOptional, linesOf}
 use Rattle.plan_theory.specs.Taken.{DrawnBy}
-use Rattle.plan_theory.specs.First.{firstLines, Formed, RowApplies, row-1, row-2, row-3, row-3-node}
+use Rattle.plan_theory.specs.First.{firstLines, Formed, RowApplies, row-1, row-4, row-2, row-3, row-3-node}
 use Rattle.plan_theory.proofs.Tree.Room.{limits-room, room-fits}
-use Rattle.plan_theory.proofs.Tree.Figures.{good-ranges}
+use Rattle.plan_theory.proofs.Tree.Figures.{good-ranges, framing-small}
+use Rattle.plan_theory.proofs.Tree.Optional.{small-meant}
 use Rattle.plan_theory.proofs.Tree.OneTree.{one-tree}
 use Rattle.plan_theory.proofs.First.Places.{same-ended}
 
@@ -53,35 +55,52 @@ behind-line l g m n ks more ls s =
     let a = line-stays l (suc m) m ls (g ks) refl s in
     both-stay (ended l) g m n ls ks a (more (a .behind) (a .same))
 
-plan-stays : (ls : Lines) (n : ℕ) (d : Formed ls n) → linesOf (d .tree) ≡ n → Stays (draw (d .fig) (d .tree)) 0 ls (d .rest)
+-- a line that may be missing
+behind-optional : {N : Type 0} (word : List ℕ) (numbers : N → List ℕ) (o : Option N) (g : Lines → Lines) (m n : ℕ) (ks : Lines)
+    → ((js : Lines) → firstLines m js ≡ firstLines m (g ks) → Stays g n js ks) → (k : ℕ) → k ≡ linesOptional o + m
+    → (ls : Lines) → firstLines k ls ≡ firstLines k (drawOptional word numbers o (g ks)) → Stays (λ x. drawOptional word numbers o (g x)) n ls ks
+behind-optional word numbers none g m n ks more k e ls s =
+    let same : k ≡ m = omega arith in
+    more ls (subst (λ (i : ℕ). firstLines i ls ≡ firstLines i (g ks)) same s)
+behind-optional word numbers (some x) g m n ks more k e ls s =
+    let l : List ℕ = drawForm word (numbers x) in
+    let same : k ≡ suc m = omega arith in
+    behind-line l g m n ks more ls (subst (λ (i : ℕ). firstLines i ls ≡ firstLines i (ended l (g ks))) same s)
+
+plan-stays : (ls : Lines) (n : ℕ) (d : Formed ls n) → linesOf (d .fig) (d .tree) ≡ n → Stays (draw (d .fig) (d .tree)) 0 ls (d .rest)
 unfolding draw
 plan-stays ls n d e =
     let h : ℕ = linesIn (d .tree) + 0 in
+    let f : ℕ = linesOptional (d .fig .framing) + suc h in
     let root : Lines → Lines = λ x. ended hub-word (drawHub (d .tree) x) in
-    let interrupt : Lines → Lines = λ x. ended (drawForm interrupt-word (d .fig .interrupt ∷ [])) (root x) in
+    let framing : Lines → Lines = λ x. drawOptional framing-word oneNumber (d .fig .framing) (root x) in
+    let interrupt : Lines → Lines = λ x. ended (drawForm interrupt-word (d .fig .interrupt ∷ [])) (framing x) in
     let overhead : Lines → Lines = λ x. ended (drawForm overhead-word (d .fig .overhead ∷ [])) (interrupt x) in
-    let all : n ≡ suc (suc (suc (suc h))) = omega arith in
-    behind-line (drawForm frame-word (d .fig .frame ∷ [])) overhead (suc (suc (suc h))) 0 (d .rest)
-    (behind-line (drawForm overhead-word (d .fig .overhead ∷ [])) interrupt (suc (suc h)) 0 (d .rest)
-    (behind-line (drawForm interrupt-word (d .fig .interrupt ∷ [])) root (suc h) 0 (d .rest)
-    (behind-line hub-word (drawHub (d .tree)) h 0 (d .rest) (λ js s. hub-stays (d .tree) h 0 js (d .rest) refl s)))) ls
+    let all : n ≡ suc (suc (suc f)) = omega arith in
+    behind-line (drawForm frame-word (d .fig .frame ∷ [])) overhead (suc (suc f)) 0 (d .rest)
+    (behind-line (drawForm overhead-word (d .fig .overhead ∷ [])) interrupt (suc f) 0 (d .rest)
+    (behind-line (drawForm interrupt-word (d .fig .interrupt ∷ [])) framing f 0 (d .rest)
+    (behind-optional framing-word oneNumber (d .fig .framing) root (suc h) 0 (d .rest)
+    (behind-line hub-word (drawHub (d .tree)) h 0 (d .rest) (λ js s. hub-stays (d .tree) h 0 js (d .rest) refl s)) f refl))) ls
     (subst (λ (m : ℕ). firstLines m ls ≡ firstLines m (draw (d .fig) (d .tree) (d .rest))) all (d .drawn))
 
 module _ (text : List ℕ) (t : DrawnBy text) where
   formed : (n : ℕ) → Formed (lines text) n
   formed n =
-      let r = good-ranges (t .fig) (t .good) in
+      let fig = figuresOf (t .fig) in
+      let r = good-ranges fig (t .good) in
       record {
         fig = t .fig;
         tree = t .tree;
         rest = t .rest;
-        small = (omega (arith, r), (omega (arith, r), (omega (arith, r), tt)));
+        small = (omega (arith, r), (omega (arith, r), (omega (arith, r), small-meant 3 (t .fig .framing) (framing-small fig (t .framed)))));
         drawn = ap (firstLines n) (t .drawn);
       }
 
   pub taken-no-row : (n k : ℕ) → RowApplies (lines text) n k → ⊥
   unfolding formed
   taken-no-row n k (row-1 f) = f (formed n)
+  taken-no-row n k (row-4 d f) = true-false (t .framed) (f (formed n))
   taken-no-row n k (row-2 d f) = true-false (t .good) (f (formed n))
   taken-no-row n k (row-3 d f) = true-false (room-fits (t .tree) (limits-room (t .tree) (t .within) .0)) (f (formed n))
   taken-no-row n k (row-3-node d e z) =

@@ -9,8 +9,9 @@ use native.Mathlib.Omega.{arith}
 use lib.ListN.{length}
 use Rattle.rules.specs.Plan.{most-hubs, most-ports, most-nodes, most-levels}
 use Rattle.text.specs.Line.{Lines}
-use Rattle.plan.specs.Reading.{Open, Progress, Figures, oneMore}
-use Rattle.plan_theory.specs.Tree.{Port, empty, hub, Hub, close, port, drawHub, portsOf, nodesAt, nodesIn, hubsAt, hubsIn, levelsAt, levelsIn, widthsAt, widthsIn, goodFigures}
+use Rattle.plan.specs.Tables.{Figures}
+use Rattle.plan.specs.Reading.{Open, Progress, oneMore}
+use Rattle.plan_theory.specs.Tree.{Port, empty, hub, Hub, close, port, drawHub, portsOf, nodesAt, nodesIn, hubsAt, hubsIn, levelsAt, levelsIn, widthsAt, widthsIn, goodFigures, goodFraming}
 use Rattle.plan_theory.specs.Behind.{linesIn}
 use Rattle.plan_theory.proofs.Tree.Room.{HubRoom, first-room, rest-room, join-room, inner-room, outer-room, one-hub, one-level}
 use Rattle.plan_theory.proofs.First.Places.{Plans}
@@ -47,6 +48,7 @@ HubPlans fig s =
     record {
       What = Tails (s .inner ∷ s .outer);
       drawn = λ w r. drawTails (s .inner ∷ s .outer) w r;
+      framed = λ w. goodFraming fig ≡ true;
       good = λ w. goodFigures fig ≡ true;
       fits = λ w. RoomTails (s .inner ∷ s .outer) w (s .nodes) (s .hubs);
       size = λ w. linesTails (s .inner ∷ s .outer) w;

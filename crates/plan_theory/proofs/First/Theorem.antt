@@ -10,13 +10,12 @@ use lib.Dec.{leb}
 use Rattle.rules.proofs.Laws.Passes.{Which, which, yes′, no′, true-false}
 use Rattle.text.specs.Line.{Lines, nothing, unended, ended, lines, nextNumber}
 use Rattle.plan.specs.Reading.{frameLine, reading}
-use Rattle.plan_theory.specs.Tree.{draw, fits, goodFigures}
-use Rattle.plan_theory.specs.Behind.{linesIn}
+use Rattle.plan_theory.specs.Tree.{Header, figuresOf, Hub, draw, fits, goodFigures, goodFraming}
 use Rattle.plan_theory.specs.Taken.{RefusedAt}
-use Rattle.plan_theory.specs.First.{firstLines, Formed, RowApplies, row-1, row-2, row-3, row-3-node, DecidedBy}
-use Rattle.plan_theory.proofs.First.Places.{Follows, Says, says-1, says-2, says-3, says-3-node, Clean}
+use Rattle.plan_theory.specs.First.{firstLines, Formed, RowApplies, row-1, row-4, row-2, row-3, row-3-node, place, DecidedBy}
+use Rattle.plan_theory.proofs.First.Places.{Headed, Follows, Says, says-1, says-4, says-2, says-3, says-3-node, Clean}
 use Rattle.plan_theory.proofs.First.Deciding.{later, Decides}
-use Rattle.plan_theory.proofs.First.Header.{figures, WholePlans, frame-decides}
+use Rattle.plan_theory.proofs.First.Header.{WholePlans, frame-decides}
 
 -- lines are counted one by one as long as 64 bits hold the count
 later-sum : (k n : ℕ) → k + n < 2 ^ 64 → later k n ≡ k + n
@@ -27,27 +26,34 @@ later-sum (suc k) n h =
     later-sum k (nextNumber n) (omega arith) ∙ omega arith
 
 -- the plans of the first line are the drawings
-formed : (ls : Lines) (n : ℕ) → Follows WholePlans ls n → Formed ls n
+abbrev headerOf : WholePlans .What → Header
+headerOf w = record { frame = w .0; overhead = w .2 .0; interrupt = w .2 .2 .0; framing = w .2 .2 .2 .0 }
+
+abbrev treeOf : WholePlans .What → Hub
+treeOf w = w .2 .2 .2 .2
+
+whole-drawn : (w : WholePlans .What) (rest : Lines) → WholePlans .drawn w rest ≡ draw (headerOf w) (treeOf w) rest
 unfolding draw
+whole-drawn w rest = refl
+
+formed : (ls : Lines) (n : ℕ) → Follows WholePlans ls n → Formed ls n
 formed ls n d =
     let w = d .what in
     record {
-      fig = figures (w .0) (w .2 .0) (w .2 .2 .0);
-      tree = w .2 .2 .2;
+      fig = headerOf w;
+      tree = treeOf w;
       rest = d .rest;
-      small = (w .1, (w .2 .1, (w .2 .2 .1, tt)));
-      drawn = d .same;
+      small = (w .1 .0, (w .2 .1 .0, (w .2 .2 .1 .0, w .2 .2 .2 .1)));
+      drawn = d .same ∙ ap (firstLines n) (whole-drawn w (d .rest));
     }
 
 follows : (ls : Lines) (n : ℕ) → Formed ls n → Follows WholePlans ls n
-unfolding draw
 follows ls n d =
     let fig = d .fig in
-    record {
-      what = (fig .frame, d .small .0, (fig .overhead, d .small .1 .0, (fig .interrupt, d .small .1 .1 .0, d .tree)));
-      rest = d .rest;
-      same = d .drawn;
-    }
+    let s = d .small in
+    let w : WholePlans .What =
+    (fig .frame, (s .0, tt), (fig .overhead, (s .1 .0, tt), (fig .interrupt, (s .1 .1 .0, tt), (fig .framing, s .1 .1 .1, d .tree)))) in
+    record { what = w; rest = d .rest; same = d .drawn ∙ sym (ap (firstLines n) (whole-drawn w (d .rest))) }
 
 not-true : (b : Bool) → (b ≡ true → ⊥) → b ≡ false
 not-true true h = absurd (h refl)
@@ -57,35 +63,41 @@ not-true false h = refl
 applies : (ls : Lines) (n k : ℕ) → Says WholePlans ls n k → RowApplies ls n k
 unfolding formed follows
 applies ls n k (says-1 h) = row-1 (λ d. h (follows ls n d))
-applies ls n k (says-2 d h) = row-2 (formed ls n d) (λ x. not-true (goodFigures (x .fig)) (h (follows ls n x)))
+applies ls n k (says-4 d h) = row-4 (formed ls n d) (λ x. not-true (goodFraming (figuresOf (x .fig))) (h (follows ls n x)))
+applies ls n k (says-2 d f h) = row-2 (formed ls n d) (λ x. not-true (goodFigures (figuresOf (x .fig))) (h (follows ls n x)))
 applies ls n k (says-3 d g h) = row-3 (formed ls n d) (λ x. not-true (fits (x .tree)) (h (follows ls n x)))
 applies ls n k (says-3-node d g s z) = row-3-node (formed ls n d) (omega arith) (omega arith)
 
--- behind good figures row 3 is the first
-from-3 : (ls : Lines) (n : ℕ) (d : Follows WholePlans ls n) → WholePlans .good (d .what) → {j : ℕ} → RowApplies ls n j → 3 ≤ j
-unfolding formed
-from-3 ls n d g (row-1 f) = absurd (f (formed ls n d))
-from-3 ls n d g (row-2 x f) = absurd (true-false g (f (formed ls n d)))
-from-3 ls n d g (row-3 x f) = omega arith
-from-3 ls n d g (row-3-node x s z) = omega arith
+-- no earlier row applies to its line: row 1 to no line of a drawing, 4 to none with a known framing, and 2 to none with good figures
+module _ (ls : Lines) (n : ℕ) (d : Follows WholePlans ls n) where
+  from-4 : {j : ℕ} → RowApplies ls n j → place 4 ≤ place j
+  unfolding formed
+  from-4 (row-1 f) = absurd (f (formed ls n d))
+  from-4 (row-4 x f) = omega arith
+  from-4 (row-2 x f) = omega arith
+  from-4 (row-3 x f) = omega arith
+  from-4 (row-3-node x s z) = omega arith
 
--- and no earlier row applies to its line
-first-row : (ls : Lines) (n m k : ℕ) → Says WholePlans ls n m → RowApplies ls n k → m ≤ k
-unfolding formed
-first-row ls n m k (says-1 h) r = from-1 r
-  where
-    from-1 : {j : ℕ} → RowApplies ls n j → 1 ≤ j
-    from-1 (row-1 f) = omega arith
-    from-1 (row-2 x f) = omega arith
-    from-1 (row-3 x f) = omega arith
-    from-1 (row-3-node x s z) = omega arith
-first-row ls n m k (says-2 d h) r = from-2 r
-  where
-    from-2 : {j : ℕ} → RowApplies ls n j → 2 ≤ j
-    from-2 (row-1 f) = absurd (f (formed ls n d))
-    from-2 (row-2 x f) = omega arith
-    from-2 (row-3 x f) = omega arith
-    from-2 (row-3-node x s z) = omega arith
+  from-2 : WholePlans .framed (d .what) → {j : ℕ} → RowApplies ls n j → place 2 ≤ place j
+  unfolding formed
+  from-2 g (row-1 f) = absurd (f (formed ls n d))
+  from-2 g (row-4 x f) = absurd (true-false g (f (formed ls n d)))
+  from-2 g (row-2 x f) = omega arith
+  from-2 g (row-3 x f) = omega arith
+  from-2 g (row-3-node x s z) = omega arith
+
+  from-3 : Headed WholePlans (d .what) → {j : ℕ} → RowApplies ls n j → place 3 ≤ place j
+  unfolding formed
+  from-3 g (row-1 f) = absurd (f (formed ls n d))
+  from-3 g (row-4 x f) = absurd (true-false (g .0) (f (formed ls n d)))
+  from-3 g (row-2 x f) = absurd (true-false (g .1) (f (formed ls n d)))
+  from-3 g (row-3 x f) = omega arith
+  from-3 g (row-3-node x s z) = omega arith
+
+first-row : (ls : Lines) (n m k : ℕ) → Says WholePlans ls n m → RowApplies ls n k → place m ≤ place k
+first-row ls n m k (says-1 h) r = omega arith
+first-row ls n m k (says-4 d h) r = from-4 ls n d r
+first-row ls n m k (says-2 d f h) r = from-2 ls n d f r
 first-row ls n m k (says-3 d g h) r = from-3 ls n d g r
 first-row ls n m k (says-3-node d g s z) r = from-3 ls n d g r
 
@@ -113,11 +125,11 @@ none-applies : (ls : Lines) (m : ℕ) → Clean WholePlans ls m → ((k : ℕ) (
     → (n k : ℕ) → n ≤ m → RowApplies ls n k → ⊥
 unfolding formed follows fewer
 none-applies ls m c whole n k h (row-1 f) = f (fewer ls n m h (formed ls m (c .it)))
-none-applies ls m c whole n k h (row-2 x f) = true-false (c .good) (f (fewer ls n m h (formed ls m (c .it))))
+none-applies ls m c whole n k h (row-4 x f) = true-false (c .headed .0) (f (fewer ls n m h (formed ls m (c .it))))
+none-applies ls m c whole n k h (row-2 x f) = true-false (c .headed .1) (f (fewer ls n m h (formed ls m (c .it))))
 none-applies ls m c whole n k h (row-3 x f) = true-false (c .fits) (f (fewer ls n m h (formed ls m (c .it))))
 none-applies ls m c whole n k h (row-3-node d s z) =
-    let e : suc (suc (suc (suc (linesIn (d .tree))))) ≡ n = omega arith in
-    let late = whole n (follows ls n d) e in
+    let late = whole n (follows ls n d) (omega arith) in
     omega arith
 
 first-line : (ls : Lines) (m : ℕ) → Clean WholePlans ls m → ((k : ℕ) (d : Follows WholePlans ls k) → WholePlans .size (d .what) ≡ k → m < k)
@@ -136,7 +148,7 @@ refused-decided text line number e =
       its-number = λ h. D .its-number ∙ later-sum (D .above) 1 h;
       row = applies (lines text) (D .above + 1) number row;
       first-line = λ n k r. omega (arith, first-line (lines text) (D .above) (D .clean) (D .whole) n k r (which (leb n (D .above))));
-      first-row = λ k r. omega (arith, first-row (lines text) (D .above + 1) number k row r);
+      first-row = λ k r. first-row (lines text) (D .above + 1) number k row r;
       none-above = λ short s. ap (λ (x : Lines). frameLine x (record { at = 0; number = 1 }) .answer) s ∙ D .none-above;
       none-below = λ other s. D .none-below (lines other) (rw (← add-one (D .above)) s);
     }

@@ -7,10 +7,9 @@ use lib.ListN.{length, length-replicate}
 use Rattle.rules.specs.Plan as rules
 use Rattle.rules.specs.Drawn.{Within, Drawn}
 use Rattle.plan_tree.specs.Tables.{cells, noTable, putRoot, hubOfNode, portOfNode, levelCell, portsCell}
-use Rattle.plan.specs.Tables.{planOf}
-use Rattle.plan.specs.Reading.{Figures}
+use Rattle.plan.specs.Tables.{Figures, planOf}
 use Rattle.plan_theory.specs.Tree.{Hub, portsOf, nodesIn, hubsIn, limits, goodFigures, Filled, filled, tablesOf}
-use Rattle.plan_theory.specs.Taken.{Holds}
+use Rattle.plan_theory.specs.Taken.{FiguresTold, Holds}
 use Rattle.plan_theory.proofs.Tables.Regions.{hub-later, head-own}
 use Rattle.plan_theory.proofs.Tables.Puts.{cell, figures-other, root-length, root-level}
 use Rattle.plan_theory.proofs.Tables.Room.{root-room}
@@ -20,7 +19,7 @@ use Rattle.plan_theory.proofs.Tables.Shown.{HubShows, shown-hub}
 use Rattle.plan_theory.proofs.Tables.Above.{above, above-runs, runs-first, runs-last}
 use Rattle.plan_theory.proofs.Tables.Parts.{HubGood, HubHangs, NodeStands, Parts, join, only}
 use Rattle.plan_theory.proofs.Tables.Facts.{shown-ports, parts-hub}
-use Rattle.plan_theory.proofs.Tables.Heads.{nodes-is, hubs-is, figures-good}
+use Rattle.plan_theory.proofs.Tables.Heads.{frame-is, overhead-is, interrupt-is, framing-is, nodes-is, hubs-is, figures-good}
 
 abbrev start : Filled
 start = record { nodes = 0; hubs = 1; tables = putRoot noTable }
@@ -38,18 +37,27 @@ module _ (fig : Figures) (x : Hub) where
   pub nodes-are : planOf (tablesOf fig x) .nodes ≡ nodesIn x
   unfolding tablesOf
   nodes-are =
-      nodes-is (fig .frame) (fig .overhead) (fig .interrupt) (filled x .nodes) (filled x .hubs) (filled x .tables) (filled-full x)
+      nodes-is fig (filled x .nodes) (filled x .hubs) (filled x .tables) (filled-full x)
       ∙ counted-hub x 1 0 1 start .nodes ∙ omega arith
 
   pub hubs-are : planOf (tablesOf fig x) .hubs ≡ hubsIn x
   unfolding tablesOf
   hubs-are =
-      hubs-is (fig .frame) (fig .overhead) (fig .interrupt) (filled x .nodes) (filled x .hubs) (filled x .tables) (filled-full x)
+      hubs-is fig (filled x .nodes) (filled x .hubs) (filled x .tables) (filled-full x)
       ∙ counted-hub x 1 0 1 start .hubs ∙ omega (arith, one-hub x)
+
+  pub figures-are : FiguresTold (planOf (tablesOf fig x)) fig
+  unfolding tablesOf
+  figures-are =
+      let n = filled x .nodes in
+      let h = filled x .hubs in
+      let t = filled x .tables in
+      let f = filled-full x in
+      record { frame = frame-is fig n h t f; overhead = overhead-is fig n h t f; interrupt = interrupt-is fig n h t f; framing = framing-is fig n h t f }
 
   same : (a : ℕ) → 8 ≤ a → cell (tablesOf fig x) a ≡ cell (filled x .tables) a
   unfolding tablesOf
-  same a b = figures-other (filled x .tables) (fig .frame) (fig .overhead) (fig .interrupt) (filled x .nodes) (filled x .hubs) a b
+  same a b = figures-other (filled x .tables) fig (filled x .nodes) (filled x .hubs) a b
 
   module _ (lim : HubRoom x 0 1 0 1) where
     level-one : cell (tablesOf fig x) (levelCell 1) ≡ 1

@@ -6,7 +6,7 @@ use native.Mathlib.Omega.{arith}
 use lib.ListN.{length, getD, set, length-set}
 use lib.Seq.{getD-set-same, getD-set-other}
 use Rattle.plan_tree.specs.Tables.{cells, hubCell, portCell, nodeCell, hub-code, putEmpty, putNode, putHub, putPorts, putRoot, hubOfNodeCell, levelCell, parentCell, placeCell, portOfNodeCell, portsCell}
-use Rattle.plan.specs.Tables.{putFigures}
+use Rattle.plan.specs.Tables.{Figures, putFigures}
 
 -- cell a of a table
 abbrev pub cell : List ℕ → ℕ → ℕ
@@ -57,15 +57,16 @@ module _ (t : List ℕ) where
   unfolding putPorts
   ports-other g q a d = simp getD-set-other
 
-  pub figures-other : (T O D n h a : ℕ) → 8 ≤ a → cell (putFigures T O D n h t) a ≡ cell t a
+  pub figures-other : (fig : Figures) (n h a : ℕ) → 8 ≤ a → cell (putFigures fig n h t) a ≡ cell t a
   unfolding putFigures
-  figures-other T O D n h a d =
+  figures-other fig n h a d =
       let e : (i : ℕ) → i < 8 → a ≡ i → ⊥ = λ i f g. omega arith in
       let e0 = e 0 (omega arith) in
       let e1 = e 1 (omega arith) in
       let e2 = e 2 (omega arith) in
       let e3 = e 3 (omega arith) in
       let e4 = e 4 (omega arith) in
+      let e5 = e 5 (omega arith) in
       simp getD-set-other
 
 module _ (t : List ℕ) (full : length t ≡ cells) where

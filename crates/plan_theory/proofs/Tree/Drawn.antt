@@ -12,8 +12,8 @@ use Rattle.text.specs.declared.Cursor.{Cursor}
 use Rattle.plan.specs.declared.Answer.the-variants.{Taken}
 use Rattle.plan_tree.specs.Kind.{kindOf, hub-word}
 use Rattle.plan_tree.specs.Tables.{putHub}
-use Rattle.plan.specs.Tables.{putFigures}
-use Rattle.plan.specs.Reading.{Read, Open, Progress, Figures, oneMore, hubLines, next}
+use Rattle.plan.specs.Tables.{Figures, putFigures}
+use Rattle.plan.specs.Reading.{Read, Open, Progress, oneMore, hubLines, next}
 use Rattle.plan_theory.specs.Tree.{Port, node, empty, hub, Hub, close, port, drawPort, drawHub, portsOf, nodesAt, nodesIn, hubsAt, levelsAt, Filled, fillPort, fillHub}
 use Rattle.plan_theory.specs.Behind.{pastPort, pastHub}
 use Rattle.plan_theory.proofs.Tree.Room.{PortRoom, HubRoom, first-room, rest-room, inner-room, one-hub, one-level}
@@ -29,7 +29,7 @@ module _ (fig : Figures) where
   shut [] ls c s =
       record {
         answer = Taken (s .nodes) (s .hubs) (c .at) (c .number);
-        tables = putFigures (fig .frame) (fig .overhead) (fig .interrupt) (s .nodes) (s .hubs) (s .tables);
+        tables = putFigures fig (s .nodes) (s .hubs) (s .tables);
       }
   shut (o ∷ os) ls c s = hubLines fig ls c (within o os s)
 

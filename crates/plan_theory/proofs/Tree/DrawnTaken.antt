@@ -1,49 +1,70 @@
--- The drawing of every tree within the limits, behind three good figures,
+-- The drawing of every tree within the limits, behind a good header,
 -- is taken for that very tree, whatever follows it. Assumes nothing.
-use Prim.Native.Nat.{ℕ, _+_, _<_, _^_}
-use mathlib.Core.Path.{_≡_, refl, ap, _∙_}
+use Prim.Native.Nat.{ℕ, _+_, _≤_, _<_, _^_}
+use mathlib.Core.Path.{_≡_, refl, sym, ap, _∙_, subst}
 use mathlib.Core.Bool.{true}
 use mathlib.Core.List.{List, []}
 use native.Mathlib.Omega.{arith}
 use lib.ListN.{drop}
-use Rattle.text.specs.Line.{Lines, lines}
+use Rattle.rules.specs.Plan.{longestIn}
+use Rattle.rules.proofs.Laws.Lengths.{longest-low}
+use Rattle.text.specs.Line.{Lines, ended, lines}
 use Rattle.text.specs.Word.{isWord}
+use Rattle.text.specs.declared.Cursor.{Cursor}
 use Rattle.plan.specs.declared.Answer.the-variants.{Taken}
 use Rattle.plan_tree.specs.Kind.{kindOf, hub-word}
-use Rattle.plan.specs.Words.{frame-word, overhead-word, interrupt-word}
+use Rattle.plan.specs.Words.{frame-word, overhead-word, interrupt-word, framing-word}
 use Rattle.plan_tree.specs.Tables.{noTable, putRoot}
-use Rattle.plan.specs.Reading.{Read, Figures, next, rootLine, interruptLine, overheadLine, frameLine, reading}
-use Rattle.plan_theory.specs.Tree.{Hub, draw, nodesIn, hubsIn, limits, goodFigures, Filled, filled, tablesOf}
-use Rattle.plan_theory.specs.Behind.{linesOf, pastFigures, past}
-use Rattle.plan_theory.specs.Taken.{TakenFor}
+use Rattle.plan.specs.Tables.{Figures, planOf}
+use Rattle.plan.specs.Reading.{Read, next, framingRow, rootLine, framingLine, interruptLine, overheadLine, frameLine, reading}
+use Rattle.plan_theory.specs.Tree.{Header, figuresOf, Hub, draw, drawHub, nodesIn, hubsIn, limits, goodFigures, goodFraming, Filled, filled, tablesOf}
+use Rattle.plan_theory.specs.Behind.{linesOf, pastInterrupt, pastFigures, past}
+use Rattle.plan_theory.specs.Taken.{FiguresTold, TakenFor}
+use Rattle.plan_theory.proofs.Tables.Drawn.{figures-are}
 use Rattle.plan_theory.proofs.Tree.Room.{limits-room}
 use Rattle.plan_theory.proofs.Tree.Count.{nodes-in, hubs-in, count-lines, behind-draw}
 use Rattle.plan_theory.proofs.Tree.Drawn.{shut, hub-drawn}
-use Rattle.plan_theory.proofs.Tree.Figures.{good-ranges, figure-drawn}
+use Rattle.plan_theory.proofs.Tree.Figures.{good-ranges, framing-small, no-row, figure-drawn}
+use Rattle.plan_theory.proofs.Tree.Optional.{number, hub-begins, optional-drawn, small-meant, row-meant, reads-meant}
 
-module _ (fig : Figures) (h : Hub) (rest : Lines) (good : goodFigures fig ≡ true) (within : limits h ≡ true) where
-  reading-drawn : (text : List ℕ) → lines text ≡ draw fig h rest → reading text ≡ shut fig [] rest (past fig h) (filled h)
-  unfolding reading frameLine overheadLine interruptLine rootLine draw past pastFigures kindOf isWord
-  reading-drawn text e =
-      let r = good-ranges fig good in
-      let l = limits-room h within in
-      let s : Filled = record { nodes = 0; hubs = 1; tables = putRoot noTable } in
-      ap (λ (ls : Lines). frameLine ls (record { at = 0; number = 1 })) e
-      ∙ figure-drawn frame-word (fig .frame) 100000 4000000 _ _ (r .frameLow) (r .frameHigh) (omega (arith, r))
-      ∙ figure-drawn overhead-word (fig .overhead) 0 50000 _ _ (omega arith) (r .overheadHigh) (omega (arith, r))
-      ∙ figure-drawn interrupt-word (fig .interrupt) (12000 + fig .overhead) (fig .frame) _ _ (r .interruptLow) (r .interruptHigh) (omega (arith, r))
-      ∙ hub-drawn fig h (record { hub = 1; ports = 0 }) [] 1 s (next (pastFigures fig) hub-word) rest refl (l .0) (omega (arith, l .1))
+module _
+    (fig : Header) (h : Hub) (rest : Lines) (good : goodFigures (figuresOf fig) ≡ true) (framed : goodFraming (figuresOf fig) ≡ true) (within : limits h ≡ true)
+  where
+    abbrev meaning : ℕ → Figures
+    meaning = λ framing. record { frame = fig .frame; overhead = fig .overhead; interrupt = fig .interrupt; framing = framing }
 
-  pub drawn-taken : (text : List ℕ) → lines text ≡ draw fig h rest → TakenFor text fig h rest
-  unfolding tablesOf
-  drawn-taken text e =
-      let s : Filled = record { nodes = 0; hubs = 1; tables = putRoot noTable } in
-      let n : filled h .nodes ≡ nodesIn h = omega (arith, nodes-in h 1 0 1 s) in
-      let m : filled h .hubs ≡ hubsIn h = omega (arith, hubs-in h 1 0 1 s) in
-      let t = reading-drawn text e in
-      record {
-        answer = ap (λ (r : Read). r .answer) t ∙ rw (n, m);
-        tables = ap (λ (r : Read). r .tables) t;
-        behind = behind-draw text fig h rest e;
-        number = λ few. omega (arith, count-lines fig h);
-      }
+    reading-drawn : (text : List ℕ) → lines text ≡ draw fig h rest → reading text ≡ shut (figuresOf fig) [] rest (past fig h) (filled h)
+    unfolding reading frameLine overheadLine interruptLine framingLine rootLine draw past pastFigures pastInterrupt kindOf isWord
+    reading-drawn text e =
+        let r = good-ranges (figuresOf fig) good in
+        let l = limits-room h within in
+        let s : Filled = record { nodes = 0; hubs = 1; tables = putRoot noTable } in
+        let low : longestIn 3 + fig .overhead ≤ fig .interrupt = omega (arith, r .interruptLow, longest-low (figuresOf fig .framing)) in
+        let row : ℕ → ℕ = framingRow (fig .overhead) (fig .interrupt) in
+        let more : ℕ → Lines → Cursor → Read = λ x ls c. rootLine (meaning x) ls c in
+        let free : row 3 ≡ 0 = no-row (meaning 3) (unfold goodFraming in refl) low in
+        ap (λ (ls : Lines). frameLine ls (record { at = 0; number = 1 })) e
+        ∙ figure-drawn frame-word (fig .frame) 100000 4000000 _ _ (r .frameLow) (r .frameHigh) (omega (arith, r))
+        ∙ figure-drawn overhead-word (fig .overhead) 0 50000 _ _ (omega arith) (r .overheadHigh) (omega (arith, r))
+        ∙ figure-drawn interrupt-word (fig .interrupt) (longestIn 3 + fig .overhead) (fig .frame) _ _ low (r .interruptHigh) (omega (arith, r))
+        ∙ optional-drawn number framing-word row more (more 3) (fig .framing) (ended hub-word (drawHub h rest)) (pastInterrupt fig)
+        (hub-begins (drawHub h rest)) (small-meant 3 (fig .framing) (framing-small (figuresOf fig) framed))
+        (row-meant 3 row free (fig .framing) .1 (no-row (figuresOf fig) framed (r .interruptLow)))
+        ∙ reads-meant 3 more (fig .framing) (ended hub-word (drawHub h rest)) (pastFigures fig)
+        ∙ hub-drawn (figuresOf fig) h (record { hub = 1; ports = 0 }) [] 1 s (next (pastFigures fig) hub-word) rest refl (l .0) (omega (arith, l .1))
+
+    pub drawn-taken : (text : List ℕ) → lines text ≡ draw fig h rest → TakenFor text fig h rest
+    unfolding tablesOf
+    drawn-taken text e =
+        let s : Filled = record { nodes = 0; hubs = 1; tables = putRoot noTable } in
+        let n : filled h .nodes ≡ nodesIn h = omega (arith, nodes-in h 1 0 1 s) in
+        let m : filled h .hubs ≡ hubsIn h = omega (arith, hubs-in h 1 0 1 s) in
+        let t = reading-drawn text e in
+        let c : reading text .tables ≡ tablesOf (figuresOf fig) h = ap (λ (r : Read). r .tables) t in
+        record {
+          answer = ap (λ (r : Read). r .answer) t ∙ rw (n, m);
+          tables = c;
+          figures = subst (λ (cells : List ℕ). FiguresTold (planOf cells) (figuresOf fig)) (sym c) (figures-are (figuresOf fig) h);
+          behind = behind-draw text fig h rest e;
+          number = λ few. omega (arith, count-lines fig h);
+        }

@@ -1,19 +1,21 @@
--- A text starts with the drawing of one tree at most, behind one set of figures. Assumes nothing.
+-- A text starts with the drawing of one tree at most, behind one header. Assumes nothing.
 use Prim.Native.Nat.{ℕ, _<_, _^_}
 use mathlib.Core.Path.{_≡_, refl, sym, ap, _∙_}
+use mathlib.Core.Bool.{false}
 use mathlib.Core.List.{List, [], _∷_}
-use mathlib.Core.Option.{some}
+use mathlib.Core.Option.{Option, none, some}
 use native.Mathlib.Omega.{arith}
 use lib.ListN.{length}
+use Rattle.rules.proofs.Laws.Passes.{true-false}
 use Rattle.text.specs.Line.{Lines, nothing, unended, ended, lines}
-use Rattle.text.specs.Form.{drawForm, readForm}
-use Rattle.text.proofs.Forms.{read-drawn}
-use Rattle.plan.specs.Words.{frame-word, overhead-word, interrupt-word}
+use Rattle.text.specs.Form.{drawForm, Small}
+use Rattle.plan.specs.Words.{frame-word, overhead-word, interrupt-word, framing-word}
 use Rattle.plan_tree.specs.Kind.{close-word, hub-word}
-use Rattle.plan.specs.Reading.{Figures}
-use Rattle.plan_theory.specs.Tree.{Port, node, empty, hub, Hub, close, port, drawPort, drawHub, draw}
-use Rattle.plan_theory.proofs.Tree.Figures.{good-ranges}
+use Rattle.plan_theory.specs.Tree.{Header, figuresOf, oneNumber, drawOptional, Port, node, empty, hub, Hub, close, port, drawPort, drawHub, draw}
+use Rattle.plan_theory.proofs.Tree.Figures.{good-ranges, framing-small}
+use Rattle.plan_theory.proofs.Tree.Optional.{Numbers, number, begins, hub-begins, drawn-begins, one-line, small-meant}
 use Rattle.plan_theory.specs.Taken.{DrawnBy}
+use Rattle.plan_theory.specs.First.{numbersOf}
 
 -- the words of a tree's lines have different lengths
 abbrev pub size : Lines → ℕ
@@ -54,39 +56,73 @@ mutual
       (cc, q .1)
 
 pub one-figure : (word : List ℕ) (a b : ℕ) → a < 10 ^ 16 → b < 10 ^ 16 → drawForm word (a ∷ []) ≡ drawForm word (b ∷ []) → a ≡ b
-one-figure word a b p q e =
-    let r : some (a ∷ []) ≡ some (b ∷ []) = sym (read-drawn word (a ∷ []) (p, tt)) ∙ ap (readForm word 1) e ∙ read-drawn word (b ∷ []) (q, tt) in
-    cc
+one-figure word a b p q e = one-line number word a b (p, tt) (q, tt) e
 
 split : (a b : List ℕ) (ls ks : Lines) → ended a ls ≡ ended b ks → (a ≡ b) × (ls ≡ ks)
 split a b ls ks e = (cc, cc)
 
-pub one-tree : (f g : Figures) (t u : Hub) (ls ks : Lines) → draw f t ls ≡ draw g u ks → t ≡ u
+-- Lines drawn in two ways with a line that may be missing, in front of lines of another word:
+-- the same lines follow, and both have the line or neither, and it says the same.
+record SameOptional {N : Type 0} (numbers : N → List ℕ) (a b : Option N) (ls ks : Lines) : Type 0 where
+  value : Small (numbersOf numbers a) → Small (numbersOf numbers b) → a ≡ b
+  rest : ls ≡ ks
+
+same-optional : {N : Type 0} {count : ℕ} (H : Numbers N count) (word : List ℕ) (a b : Option N) (ls ks : Lines)
+    → begins word ls ≡ false → begins word ks ≡ false → drawOptional word (H .list) a ls ≡ drawOptional word (H .list) b ks
+    → SameOptional (H .list) a b ls ks
+same-optional H word none none ls ks p q e = record { value = λ m n. refl; rest = e }
+same-optional H word none (some y) ls ks p q e = absurd (true-false (drawn-begins word (H .list y) ks) (sym (ap (begins word) e) ∙ p))
+same-optional H word (some x) none ls ks p q e = absurd (true-false (drawn-begins word (H .list x) ls) (ap (begins word) e ∙ q))
+same-optional H word (some x) (some y) ls ks p q e =
+    let s = split (drawForm word (H .list x)) (drawForm word (H .list y)) ls ks e in
+    record { value = λ m n. ap some (one-line H word x y m n (s .0)); rest = s .1 }
+
+-- the header's lines and the tree of two drawings of the same lines
+record SameLines (f g : Header) (t u : Hub) (ls ks : Lines) : Type 0 where
+  frame : drawForm frame-word (f .frame ∷ []) ≡ drawForm frame-word (g .frame ∷ [])
+  overhead : drawForm overhead-word (f .overhead ∷ []) ≡ drawForm overhead-word (g .overhead ∷ [])
+  interrupt : drawForm interrupt-word (f .interrupt ∷ []) ≡ drawForm interrupt-word (g .interrupt ∷ [])
+  framing : Small (numbersOf oneNumber (f .framing)) → Small (numbersOf oneNumber (g .framing)) → f .framing ≡ g .framing
+  tree : t ≡ u
+  rest : ls ≡ ks
+
+same-lines : (f g : Header) (t u : Hub) (ls ks : Lines) → draw f t ls ≡ draw g u ks → SameLines f g t u ls ks
 unfolding draw
-one-tree f g t u ls ks e =
+same-lines f g t u ls ks e =
     let frame = split _ _ _ _ e in
     let overhead = split _ _ _ _ (frame .1) in
     let interrupt = split _ _ _ _ (overhead .1) in
-    let root = split hub-word hub-word _ _ (interrupt .1) in
-    one-hub t u ls ks (root .1) .0
+    let a : Lines = drawHub t ls in
+    let b : Lines = drawHub u ks in
+    let framing = same-optional number framing-word (f .framing) (g .framing) (ended hub-word a) (ended hub-word b) (hub-begins a) (hub-begins b) (interrupt .1) in
+    let tree = one-hub t u ls ks (split hub-word hub-word a b (framing .rest) .1) in
+    record {
+      frame = frame .0;
+      overhead = overhead .0;
+      interrupt = interrupt .0;
+      framing = framing .value;
+      tree = tree .0;
+      rest = tree .1;
+    }
 
--- the figures, the tree and what follows are the text's own
+pub one-tree : (f g : Header) (t u : Hub) (ls ks : Lines) → draw f t ls ≡ draw g u ks → t ≡ u
+one-tree f g t u ls ks e = same-lines f g t u ls ks e .tree
+
+-- the header, the tree and what follows are the text's own
 pub record SameDrawing (text : List ℕ) (d k : DrawnBy text) : Type 0 where
   pub fig : d .fig ≡ k .fig
   pub tree : d .tree ≡ k .tree
   pub rest : d .rest ≡ k .rest
 
 pub one-drawing : (text : List ℕ) (d k : DrawnBy text) → SameDrawing text d k
-unfolding draw
 one-drawing text d k =
-    let r = good-ranges (d .fig) (d .good) in
-    let s = good-ranges (k .fig) (k .good) in
-    let frame = split _ _ _ _ (sym (d .drawn) ∙ k .drawn) in
-    let overhead = split _ _ _ _ (frame .1) in
-    let interrupt = split _ _ _ _ (overhead .1) in
-    let root = split hub-word hub-word _ _ (interrupt .1) in
-    let tree = one-hub (d .tree) (k .tree) (d .rest) (k .rest) (root .1) in
-    let T = one-figure frame-word (d .fig .frame) (k .fig .frame) (omega (arith, r)) (omega (arith, s)) (frame .0) in
-    let O = one-figure overhead-word (d .fig .overhead) (k .fig .overhead) (omega (arith, r)) (omega (arith, s)) (overhead .0) in
-    let D = one-figure interrupt-word (d .fig .interrupt) (k .fig .interrupt) (omega (arith, r)) (omega (arith, s)) (interrupt .0) in
-    record { fig = λ i. record { frame = T i; overhead = O i; interrupt = D i }; tree = tree .0; rest = tree .1 }
+    let r = good-ranges (figuresOf (d .fig)) (d .good) in
+    let s = good-ranges (figuresOf (k .fig)) (k .good) in
+    let l = same-lines (d .fig) (k .fig) (d .tree) (k .tree) (d .rest) (k .rest) (sym (d .drawn) ∙ k .drawn) in
+    let T = one-figure frame-word (d .fig .frame) (k .fig .frame) (omega (arith, r)) (omega (arith, s)) (l .frame) in
+    let O = one-figure overhead-word (d .fig .overhead) (k .fig .overhead) (omega (arith, r)) (omega (arith, s)) (l .overhead) in
+    let D = one-figure interrupt-word (d .fig .interrupt) (k .fig .interrupt) (omega (arith, r)) (omega (arith, s)) (l .interrupt) in
+    let small : (x : DrawnBy text) → Small (numbersOf oneNumber (x .fig .framing)) =
+    λ x. small-meant 3 (x .fig .framing) (framing-small (figuresOf (x .fig)) (x .framed)) in
+    let F = l .framing (small d) (small k) in
+    record { fig = λ i. record { frame = T i; overhead = O i; interrupt = D i; framing = F i }; tree = l .tree; rest = l .rest }

@@ -1,5 +1,5 @@
 -- Document 01's plan rows in one statement: a text is taken just where it starts with the drawing of a tree within the
--- limits, behind three good figures, and then for that tree's tables. Every other text is refused. Assumes nothing.
+-- limits, behind a good header, and then for that tree's tables. Every other text is refused. Assumes nothing.
 use Prim.Native.Nat.{ℕ}
 use mathlib.Core.Path.{_≡_, refl, sym, _∙_}
 use mathlib.Core.Logic.{_↔_}
@@ -16,7 +16,7 @@ use Rattle.plan_theory.proofs.Tree.TakenDrawn.{taken-drawn}
 
 module _ (text : List ℕ) where
   pub drawing-taken : (d : DrawnBy text) → TakenFor text (d .fig) (d .tree) (d .rest)
-  drawing-taken d = drawn-taken (d .fig) (d .tree) (d .rest) (d .good) (d .within) text (d .drawn)
+  drawing-taken d = drawn-taken (d .fig) (d .tree) (d .rest) (d .good) (d .framed) (d .within) text (d .drawn)
 
   -- whichever drawing the text starts with
   pub taken-of : (nodes hubs at line : ℕ) → TakenAs text nodes hubs at line → (d : DrawnBy text) → OfTree text nodes hubs at line d

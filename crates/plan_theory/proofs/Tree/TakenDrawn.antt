@@ -1,14 +1,15 @@
--- A text that is taken starts with the drawing of a tree within the limits, behind three good figures. Assumes nothing.
+-- A text that is taken starts with the drawing of a tree within the limits, behind a good header. Assumes nothing.
 use Prim.Native.Nat.{ℕ, _+_, _≤_}
-use mathlib.Core.Path.{_≡_, refl, sym, ap, _∙_}
+use mathlib.Core.Path.{_≡_, refl, sym, ap, _∙_, subst}
 use mathlib.Core.Bool.{Bool, true, false, _&&_}
 use mathlib.Core.List.{List, [], _∷_}
 use mathlib.Core.Option.{Option, none, some}
 use native.Mathlib.Omega.{arith}
-use borrow.Author.Tests.{leb-true, eqb-false}
+use borrow.Author.Tests.{leb-true, eqb-true, eqb-false}
 use lib.Dec.{eqb, leb}
 use lib.ListN.{length, drop, getD}
 use Rattle.rules.specs.Choice.{if_then_else_}
+use Rattle.rules.specs.Plan.{longestIn}
 use Rattle.text.specs.Line.{Lines, nothing, unended, ended, lines}
 use Rattle.text.specs.Form.{drawForm, readForm}
 use Rattle.text.specs.declared.Cursor.{Cursor}
@@ -21,17 +22,19 @@ use Rattle.plan_tree.specs.declared.Place.{Place}
 use Rattle.plan_tree.specs.declared.Part.{Part}
 use Rattle.plan_tree.specs.declared.Part.the-variants.{Read, Stopped}
 use Rattle.plan_tree.specs.Kind.{kindOf, hub-word, isHub}
-use Rattle.plan.specs.Words.{frame-word, overhead-word, interrupt-word}
+use Rattle.plan.specs.Words.{frame-word, overhead-word, interrupt-word, framing-word}
 use Rattle.plan_tree.specs.Tables.{noTable, putRoot}
 use Rattle.plan.specs.Reading as reading
-use Rattle.plan.specs.Reading.{Figures, next, refusal, onLine, figure, begun, hubLines, rootLine, interruptLine, overheadLine, frameLine}
+use Rattle.plan.specs.Tables.{Figures}
+use Rattle.plan.specs.Reading.{next, refusal, onLine, figure, optional, whereForm, unlessRow, framingRow, begun, hubLines, rootLine, framingLine, interruptLine, overheadLine, frameLine}
 use Rattle.plan_tree.specs.Readers.{Answered, hubReader}
-use Rattle.plan_theory.specs.Tree.{Hub, draw, drawHub, limits, goodFigures}
+use Rattle.plan_theory.specs.Tree.{Header, figuresOf, oneNumber, drawOptional, Hub, draw, drawHub, limits, goodFraming}
 use Rattle.plan_theory.specs.Taken.{DrawnBy}
 use Rattle.plan_theory.proofs.Tree.Room.{room-limits}
 use Rattle.plan.proofs.Reading.Agree.{first, over, hub-agrees}
 use Rattle.plan_theory.proofs.Tree.Trees.{Drawing, kind-line, HubRead, TreeRead, hub-tree}
-use Rattle.plan_theory.proofs.Tree.Figures.{ranges-good, one-number}
+use Rattle.plan_theory.proofs.Tree.Figures.{ranges-good, no-row, row-passed, one-number}
+use Rattle.plan_theory.proofs.Tree.Optional.{Numbers, number, told, rowOf, readsOn, lineOf, form-of, optionalLine, row-meant, reads-meant}
 
 module _ (n m at line : ℕ) where
   abbrev IsTaken : reading.Read → Type 0
@@ -44,7 +47,12 @@ module _ (n m at line : ℕ) where
   line-taken (unended l) c f t = let z : _≡_ {A = ℕ} 0 1 = cc in absurd (omega arith)
   line-taken (ended l rest) c f t = (l, rest, refl, t)
 
-  -- what follows a figure, by its value, the lines behind it and their cursor
+  -- a line that is a form is drawn from its numbers
+  form-drawn : (text : List ℕ) (c : Cursor) (l form : List ℕ) (ls : Lines) → lines (drop (c .at) text) ≡ ended l ls → l ≡ form
+      → lines (drop (c .at) text) ≡ ended form (lines (drop (next c l .at) text))
+  form-drawn text c l form ls e w = rw (first text c l ls e .behind, ← w) e
+
+  -- what follows a line of the header, by its value, the lines behind it and their cursor
   abbrev More : Type 0
   More = ℕ → Lines → Cursor → reading.Read
 
@@ -68,18 +76,16 @@ module _ (n m at line : ℕ) where
     ranged l ls e ns r false o t = let z : _≡_ {A = ℕ} 0 1 = cc in absurd (omega arith)
     ranged l ls e ns r true o t =
         let x : ℕ = getD ns 0 0 in
-        let d = form-law word 1 l ns .0 r in
         let p = both (leb low x) (leb x high) o in
-        let f = first text c l ls e in
-        let w : l ≡ drawForm word (x ∷ []) = d .0 ∙ ap (drawForm word) (one-number ns (d .1)) in
+        let d = form-law word 1 l ns .0 r in
         record {
           value = x;
           behind = next c l;
-          drawn = rw (f .behind, ← w) e;
+          drawn = form-drawn text c l (drawForm word (x ∷ [])) ls e (d .0 ∙ ap (drawForm word) (one-number ns (d .1)));
           above = leb-true low x (p .0);
           below = leb-true x high (p .1);
           early = omega arith;
-          taken = rw (f .behind) t;
+          taken = rw (first text c l ls e .behind) t;
         }
 
     formed : (l : List ℕ) (ls : Lines) → lines (drop (c .at) text) ≡ ended l ls → (o : Option (List ℕ)) → readForm word 1 l ≡ o
@@ -92,6 +98,54 @@ module _ (n m at line : ℕ) where
     figure-taken t =
         let r = line-taken (lines (drop (c .at) text)) c (λ l ls. figure (readForm word 1 l) low high c (line-more l ls)) t in
         formed (r .0) (r .1) (r .2) (readForm word 1 (r .0)) refl (r .3)
+
+  -- a line that may be missing is drawn, and no row refuses what it says, or it isn't drawn at all
+  module _ {N : Type 0} {count : ℕ} (H : Numbers N count) (text word : List ℕ) (row : ℕ → ℕ) (c : Cursor) (more : More) (absent : Lines → Cursor → reading.Read) where
+    record OptionalRead : Type 0 where
+      value : Option N
+      behind : Cursor
+      drawn : lines (drop (c .at) text) ≡ drawOptional word (H .list) value (lines (drop (behind .at) text))
+      passed : rowOf (H .list) row value ≡ 0
+      early : behind .number ≤ behind .at + 1
+      taken : IsTaken (readsOn (H .list) more absent value (lines (drop (behind .at) text)) behind)
+
+    module _ (soon : c .number ≤ c .at + 1) where
+      abbrev here : Lines
+      here = lines (drop (c .at) text)
+
+      without : IsTaken (absent here c) → OptionalRead
+      without t = record { value = none; behind = c; drawn = refl; passed = refl; early = soon; taken = t }
+
+      unrefused : (l : List ℕ) (ls : Lines) → here ≡ ended l ls → (x : N) → l ≡ lineOf H word x
+          → (b : Bool) → eqb (row (told (H .list) x)) 0 ≡ b
+          → IsTaken (if b then more (told (H .list) x) ls (next c l) else refusal c (row (told (H .list) x))) → OptionalRead
+      unrefused l ls e x w false o t = let z : _≡_ {A = ℕ} 0 1 = cc in absurd (omega arith)
+      unrefused l ls e x w true o t =
+          record {
+            value = some x;
+            behind = next c l;
+            drawn = form-drawn text c l (lineOf H word x) ls e w;
+            passed = eqb-true (row (told (H .list) x)) 0 o;
+            early = omega arith;
+            taken = rw (first text c l ls e .behind) t;
+          }
+
+      optional-formed : (l : List ℕ) (ls : Lines) → here ≡ ended l ls → (o : Option (List ℕ)) → readForm word count l ≡ o
+          → IsTaken (whereForm o (λ x. unlessRow (row x) c (more x ls (next c l))) (absent here c)) → OptionalRead
+      optional-formed l ls e none r t = without t
+      optional-formed l ls e (some ns) r t =
+          let d = form-of H word l ns r in
+          unrefused l ls e (d .what) (d .drawn) (eqb (row (told (H .list) (d .what))) 0) refl
+          (subst (λ (ms : List ℕ). IsTaken (unlessRow (row (getD ms 0 0)) c (more (getD ms 0 0) ls (next c l)))) (d .same) t)
+
+      optional-taken : IsTaken (optionalLine H word row more absent here c) → OptionalRead
+      optional-taken t = go here refl t
+        where
+          go : (ls : Lines) → here ≡ ls → IsTaken (optional word count ls (λ l rest x. unlessRow (row x) c (more x rest (next c l))) (absent here c))
+              → OptionalRead
+          go nothing e t = without t
+          go (unended l) e t = without t
+          go (ended l ls) e t = optional-formed l ls e (readForm word count l) refl t
 
   -- the line of the root
   hub-line : (kind : Kind) (l : List ℕ) → Drawing kind l → isHub kind ≡ true → l ≡ hub-word
@@ -169,39 +223,61 @@ module _ (text : List ℕ) (n m at line : ℕ) where
   abbrev OverheadRead : FrameRead → Type 0
   OverheadRead T = FigureRead n m at line text overhead-word 0 50000 (T .behind) (λ O ls c. interruptLine (T .value) O ls c)
 
-  abbrev figures : ℕ → ℕ → ℕ → Figures
-  figures T O D = record { frame = T; overhead = O; interrupt = D }
-
   abbrev InterruptRead : (T : FrameRead) → OverheadRead T → Type 0
   InterruptRead T O =
-      FigureRead n m at line text interrupt-word (12000 + O .value) (T .value) (O .behind) (λ D ls c. rootLine (figures (T .value) (O .value) D) ls c)
+      FigureRead n m at line text interrupt-word (longestIn 3 + O .value) (T .value) (O .behind) (λ D ls c. framingLine (T .value) (O .value) D ls c)
 
-  all-drawn : (T : FrameRead) (O : OverheadRead T) (D : InterruptRead T O)
-      → RootRead n m at line text (figures (T .value) (O .value) (D .value)) (D .behind .at) → DrawnBy text
+  abbrev figures : ℕ → ℕ → ℕ → ℕ → Figures
+  figures T O D F = record { frame = T; overhead = O; interrupt = D; framing = F }
+
+  abbrev root-behind : (T : FrameRead) (O : OverheadRead T) → InterruptRead T O → ℕ → Lines → Cursor → reading.Read
+  root-behind T O D F ls c = rootLine (figures (T .value) (O .value) (D .value) F) ls c
+
+  abbrev FramingRead : (T : FrameRead) (O : OverheadRead T) → InterruptRead T O → Type 0
+  FramingRead T O D =
+      OptionalRead n m at line number text framing-word (framingRow (O .value) (D .value)) (D .behind) (root-behind T O D) (root-behind T O D 3)
+
+  -- the header of the lines that were read
+  abbrev header : (T : FrameRead) (O : OverheadRead T) (D : InterruptRead T O) → FramingRead T O D → Header
+  header T O D F = record { frame = T .value; overhead = O .value; interrupt = D .value; framing = F .value }
+
+  -- without its line the framing is 3, for which the interrupt's own range is enough
+  all-drawn : (T : FrameRead) (O : OverheadRead T) (D : InterruptRead T O) (F : FramingRead T O D)
+      → RootRead n m at line text (figuresOf (header T O D F)) (F .behind .at) → DrawnBy text
   unfolding draw
-  all-drawn T O D h =
+  all-drawn T O D F h =
+      let free = no-row (figures (T .value) (O .value) (D .value) 3) (unfold goodFraming in refl) (D .above) in
+      let p = row-passed (figuresOf (header T O D F)) (row-meant 3 (framingRow (O .value) (D .value)) free (F .value) .0 (F .passed)) in
       record {
-        fig = figures (T .value) (O .value) (D .value);
+        fig = header T O D F;
         tree = h .tree;
         rest = h .rest;
-        good = ranges-good (figures (T .value) (O .value) (D .value)) (record {
+        good = ranges-good (figuresOf (header T O D F)) (record {
           frameLow = T .above;
           frameHigh = T .below;
           overheadHigh = O .below;
-          interruptLow = D .above;
+          interruptLow = p .1;
           interruptHigh = D .below;
         });
+        framed = p .0;
         within = h .within;
         drawn =
             T .drawn
             ∙ ap (ended (drawForm frame-word (T .value ∷ [])))
             (O .drawn
-            ∙ ap (ended (drawForm overhead-word (O .value ∷ []))) (D .drawn ∙ ap (ended (drawForm interrupt-word (D .value ∷ []))) (h .drawn)));
+            ∙ ap (ended (drawForm overhead-word (O .value ∷ [])))
+            (D .drawn ∙ ap (ended (drawForm interrupt-word (D .value ∷ []))) (F .drawn ∙ ap (drawOptional framing-word oneNumber (F .value)) (h .drawn))));
       }
 
+  framing-drawn : (T : FrameRead) (O : OverheadRead T) (D : InterruptRead T O) → FramingRead T O D → DrawnBy text
+  framing-drawn T O D F =
+      let same = reads-meant 3 (root-behind T O D) (F .value) (lines (drop (F .behind .at) text)) (F .behind) in
+      all-drawn T O D F
+      (root-taken n m at line text (figuresOf (header T O D F)) (F .behind) (F .early) (sym (ap (λ (r : reading.Read). r .answer) same) ∙ F .taken))
+
   interrupt-drawn : (T : FrameRead) (O : OverheadRead T) → InterruptRead T O → DrawnBy text
-  interrupt-drawn T O D =
-      all-drawn T O D (root-taken n m at line text (figures (T .value) (O .value) (D .value)) (D .behind) (D .early) (D .taken))
+  unfolding framingLine
+  interrupt-drawn T O D = framing-drawn T O D (optional-taken n m at line number text framing-word _ (D .behind) _ _ (D .early) (D .taken))
 
   overhead-drawn : (T : FrameRead) → OverheadRead T → DrawnBy text
   unfolding interruptLine

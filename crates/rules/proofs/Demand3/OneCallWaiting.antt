@@ -9,7 +9,7 @@ use native.Mathlib.Nat.{mul-le-mul-right}
 use lib.Dec.{ltb}
 use borrow.Author.Tests.{ltb-true, ltb-false, eq-eqb}
 use Rattle.rules.specs.Choice.{any}
-use Rattle.rules.specs.Plan.{Plan}
+use Rattle.rules.specs.Plan.{Plan, shortest, longest}
 use Rattle.rules.specs.Drawn.{Within, Figures}
 use Rattle.rules.specs.Call.{Class, normal, high, Call, time, step, taken, rest}
 use Rattle.rules.specs.Core.{Core, Share, none, standing, Line, busy, resting, bitsOf, frameOf, advance, countsIn, Due, at, due, nothing, class, sought}
@@ -53,6 +53,12 @@ module _ (p : Plan) (fig : Figures p) (M : Machine) (follows : Follows p M) (k f
         not-yet : frameOf p (s .clock) < f
         not-yet = not-started p fig f (s .clock) early
 
+        -- k's request stands, so there is a packet that is no longer than the longest
+        some-packet : shortest p ≤ longest p
+        some-packet =
+            let r = standing-before p k f R past s facts not-yet in
+            omega (arith, facts .sound .short k (r .bits) high (r .stands), facts .sound .long k (r .bits) high (r .stands))
+
         go : {x : Due} → Instant p s x → due p s ≡ x → DueBefore p s (f * p .frame + p .interrupt)
         go (line-ends e l) q = record { time = e; is = q; soon = omega (arith, facts .sound .end-soon e l, fig .interrupt-low) }
         go (one-counts l c) q = record { time = s .clock; is = q; soon = omega arith }
@@ -60,7 +66,7 @@ module _ (p : Plan) (fig : Figures p) (M : Machine) (follows : Follows p M) (k f
             record {
               time = (frameOf p (s .clock) + 1) * p .frame;
               is = q;
-              soon = (let n : frameOf p (s .clock) + 1 ≤ f = omega (arith, not-yet) in omega (arith, mul-le-mul-right (p .frame) n, fig .interrupt-low));
+              soon = (let n : frameOf p (s .clock) + 1 ≤ f = omega (arith, not-yet) in omega (arith, mul-le-mul-right (p .frame) n, some-packet, fig .interrupt-low));
             }
         go (no-instant l c h) q = absurd (counts-or-held p s k w (standing-before p k f R past s facts not-yet) c h)
 

@@ -2,7 +2,6 @@
 
 use super::tables::*;
 use crate::core::{Row, LAST_TIME, MOST_PACKETS, SHORTEST_PACKET};
-use crate::plan::LONGEST_PACKET;
 
 impl Peer {
     /// `(normal t k b)`
@@ -10,7 +9,7 @@ impl Peer {
     pub fn normal(&mut self, t: u64, k: u64, b: u64) -> Result<(), Row> {
         self.rows_11_12(t)?;
         let k = self.row_13(k)?;
-        row_15(b)?;
+        self.row_15(b)?;
         self.move_clock(t);
         let node = at_mut(&mut self.node, k);
         let before = *node;
@@ -29,7 +28,7 @@ impl Peer {
     pub fn high(&mut self, t: u64, k: u64, b: u64) -> Result<(), Row> {
         self.rows_11_12(t)?;
         let k = self.row_13(k)?;
-        row_15(b)?;
+        self.row_15(b)?;
         let node = at_mut(&mut self.node, k);
         let longest = if t < self.next_start { node.in_force } else { node.latest_bits };
         if b > u64::from(longest) {
@@ -77,7 +76,7 @@ impl Peer {
             return Err(14);
         }
         if n > 0 {
-            row_15(b)?;
+            self.row_15(b)?;
         } else if b != 0 {
             return Err(15);
         }
@@ -124,13 +123,14 @@ impl Peer {
             Err(13)
         }
     }
-}
 
-#[inline]
-fn row_15(b: u64) -> Result<(), Row> {
-    if b.wrapping_sub(SHORTEST_PACKET) <= LONGEST_PACKET - SHORTEST_PACKET {
-        Ok(())
-    } else {
-        Err(15)
+    /// A b below the shortest goes round to a large number.
+    #[inline]
+    fn row_15(&self, b: u64) -> Result<(), Row> {
+        if b.wrapping_sub(SHORTEST_PACKET) <= self.spread {
+            Ok(())
+        } else {
+            Err(15)
+        }
     }
 }

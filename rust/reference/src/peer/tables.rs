@@ -1,5 +1,6 @@
 //! What the peer keeps, made from a plan.
 
+use crate::core::SHORTEST_PACKET;
 use crate::plan::{Plan, Port, MOST_HUBS, MOST_NODES, MOST_PORTS};
 
 /// The root's number.
@@ -77,6 +78,8 @@ pub struct Peer {
     pub(super) nodes: u64,
     pub(super) frame: u64,
     pub(super) overhead: u64,
+    /// How many bits the plan's longest packet has more than the shortest.
+    pub(super) spread: u64,
     /// T - D, what the reservations may fill, and what they do fill.
     pub(super) room: u64,
     pub(super) filled: u64,
@@ -110,6 +113,7 @@ impl Peer {
             nodes: plan.nodes as u64,
             frame: plan.frame,
             overhead: plan.overhead,
+            spread: plan.longest_packet() - SHORTEST_PACKET,
             room: plan.frame - plan.interrupt,
             filled: 0,
             shown: [shown; 2],

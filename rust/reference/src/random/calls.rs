@@ -4,11 +4,11 @@
 use super::Random;
 use crate::core::{LAST_TIME, MOST_PACKETS, SHORTEST_PACKET};
 use crate::hub::{Answer, Call, Calls};
-use crate::plan::{Plan, LONGEST_PACKET};
+use crate::plan::Plan;
 use std::ops::RangeInclusive;
 
-/// The lengths of row 15.
-const LENGTHS: RangeInclusive<u64> = SHORTEST_PACKET..=LONGEST_PACKET;
+/// Lengths about the longest packets of both framings.
+const NEAR_LONGEST: [u64; 6] = [11_999, 12_000, 12_001, 35_999, 36_000, 36_001];
 
 /// How a caller behaves.
 #[derive(Clone, Copy, Debug, PartialEq, Eq)]
@@ -28,6 +28,7 @@ pub struct Caller {
     frame: u64,
     overhead: u64,
     room: u64,
+    longest: u64,
     nodes: u64,
     /// The nodes mostly spoken of.
     busy_nodes: Vec<u64>,
@@ -75,6 +76,7 @@ impl Caller {
             frame: plan.frame,
             overhead: plan.overhead,
             room: plan.frame - plan.interrupt,
+            longest: plan.longest_packet(),
             nodes,
             busy_nodes,
             clock: 0,
@@ -117,7 +119,7 @@ impl Caller {
                 self.clock = call.time().min(LAST_TIME);
                 match call {
                     Call::Reserve { k, n, b, .. } if (1..=self.nodes).contains(&k) => {
-                        let good = n <= MOST_PACKETS && LENGTHS.contains(&b);
+                        let good = n <= MOST_PACKETS && self.lengths().contains(&b);
                         self.latest[k as usize - 1] = if good { (n, b) } else { (0, 0) };
                     }
                     Call::Normal { .. } | Call::High { .. } => self.quiet = self.clock.max(self.end),
@@ -170,7 +172,7 @@ impl Caller {
             90..=96 => {
                 let k = self.random.within(1..=self.nodes);
                 let t = self.late_in_frame();
-                Call::Normal { t, k, b: self.random.within_or_end(LENGTHS) }
+                Call::Normal { t, k, b: self.random.within_or_end(self.lengths()) }
             }
             97 => Call::Until { t: self.quiet_time() },
             _ => self.mixed(),
@@ -252,10 +254,19 @@ impl Caller {
         }
     }
 
+    /// The lengths that row 15 lets pass in this plan.
+    fn lengths(&self) -> RangeInclusive<u64> {
+        SHORTEST_PACKET..=self.longest
+    }
+
     fn length(&mut self) -> u64 {
         match self.random.below(100) {
-            0..=92 => self.random.within_or_end(LENGTHS),
-            _ => self.random.one_of(&[0, 511, 12_001, 65_536 + 512, (1 << 32) + 512, u64::MAX]),
+            0..=84 => self.random.within_or_end(self.lengths()),
+            85..=92 => self.random.one_of(&NEAR_LONGEST),
+            _ => {
+                let above = self.longest + 1;
+                self.random.one_of(&[0, 511, above, 65_536 + 512, (1 << 32) + 512, u64::MAX])
+            }
         }
     }
 
@@ -285,16 +296,16 @@ impl Caller {
                 let most = (share / (SHORTEST_PACKET + self.overhead)).clamp(1, MOST_PACKETS);
                 let n = self.random.within_or_end(1..=most);
                 let fits = (share / n).saturating_sub(self.overhead);
-                (n, fits.clamp(SHORTEST_PACKET, LONGEST_PACKET))
+                (n, fits.clamp(SHORTEST_PACKET, self.longest))
             }
             45..=54 => {
                 let most = (left / (SHORTEST_PACKET + self.overhead)).clamp(1, MOST_PACKETS);
                 let n = self.random.within(1..=most);
-                (n, (left / n).saturating_sub(self.overhead).min(LONGEST_PACKET) + self.random.below(2))
+                (n, (left / n).saturating_sub(self.overhead).min(self.longest) + self.random.below(2))
             }
             55..=74 => (self.random.within(1..=4), self.length()),
             75..=84 => (0, 0),
-            85..=87 => (0, self.random.one_of(&[1, 512, 12_000, u64::MAX])),
+            85..=87 => (0, self.random.one_of(&[1, 512, 12_000, 36_000, u64::MAX])),
             88..=91 => (self.random.one_of(&[65, 256, 1 << 32, u64::MAX]), self.length()),
             _ => (self.random.within_or_end(1..=MOST_PACKETS), self.length()),
         }

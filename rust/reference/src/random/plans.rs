@@ -3,11 +3,17 @@
 use super::Random;
 use crate::plan::*;
 
+/// Half of the plans have each framing, one of 3 with its line or without.
+const FRAMING_LINES: [Option<Framing>; 4] =
+    [None, Some(Framing::Ethernet), Some(Framing::TokenRing), Some(Framing::TokenRing)];
+
 /// A random plan.
 pub fn plan(random: &mut Random) -> Plan {
-    let (frame, overhead, interrupt) = figures(random);
+    let framing_line = random.one_of(&FRAMING_LINES);
+    let (frame, overhead, interrupt) = figures(random, framing_line.unwrap_or_default());
     let shape = shape(random);
     let mut plan = Plan::new(frame, overhead, interrupt);
+    plan.framing_line = framing_line;
     build(&shape, 0, &mut plan, ROOT);
     plan
 }
@@ -23,8 +29,9 @@ pub fn small_plan(random: &mut Random, most_nodes: u64) -> Plan {
 }
 
 /// T, O and D over their ranges and at their ends; D mostly at its least, since
-/// what it takes the reservations can't have.
-fn figures(random: &mut Random) -> (u64, u64, u64) {
+/// what it takes the reservations can't have. By framing 3 it is sometimes about
+/// what would be the least by 5.
+fn figures(random: &mut Random, framing: Framing) -> (u64, u64, u64) {
     let frame = match random.below(4) {
         0 => random.within(100_000..=200_000),
         _ => random.within_or_end(FRAMES),
@@ -33,10 +40,13 @@ fn figures(random: &mut Random) -> (u64, u64, u64) {
         0 => random.within(0..=2_000),
         _ => random.within_or_end(OVERHEADS),
     };
-    let least = LONGEST_PACKET + overhead;
-    let interrupt = match random.below(8) {
+    let least = framing.longest_packet() + overhead;
+    let by_token_ring = Framing::TokenRing.longest_packet() + overhead;
+    let interrupt = match random.below(10) {
         0 => frame,
         1 => random.within(least..=frame),
+        2 => random.within_or_end(least..=by_token_ring),
+        3 => (by_token_ring - 1 + random.below(3)).max(least),
         _ => least,
     };
     (frame, overhead, interrupt)

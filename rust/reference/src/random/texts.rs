@@ -1,14 +1,14 @@
 //! Random texts of a plan and events, valid and damaged.
 
 use super::calls::{Caller, Style};
-use super::{plans, Random};
+use super::{framings, plans, Random};
 use crate::fast::Fast;
 use crate::hub::Call;
 use crate::log::{steps, LONGEST_TEXT};
 use crate::plan::draw;
 
 /// Figures at the ends of their ranges and one past them.
-const FIGURES: [&str; 29] = [
+const FIGURES: [&str; 32] = [
     "0",
     "1",
     "2",
@@ -25,6 +25,9 @@ const FIGURES: [&str; 29] = [
     "11999",
     "12000",
     "12001",
+    "35999",
+    "36000",
+    "36001",
     "50000",
     "50001",
     "99999",
@@ -40,14 +43,17 @@ const FIGURES: [&str; 29] = [
     "18446744073709551616",
 ];
 
-/// A random text: half of them valid plans with events some of which are
-/// refused, half damaged.
+/// A random text: nearly half of them valid plans with events some of which are
+/// refused, the others damaged, in the framing line alone or elsewhere too.
 pub fn text(random: &mut Random) -> Vec<u8> {
     let mut text = whole(random);
     if random.chance(50) {
         for _ in 0..random.within(1..=4) {
             damage(random, &mut text);
         }
+    }
+    if random.chance(15) {
+        framings::damage(random, &mut text);
     }
     text
 }
@@ -105,7 +111,7 @@ fn damage(random: &mut Random, text: &mut Vec<u8>) {
         _ => {
             let early = random.chance(30);
             lines(text, |lines| {
-                let at = random.place(if early { lines.len().min(3) } else { lines.len() });
+                let at = random.place(if early { lines.len().min(4) } else { lines.len() });
                 let figure = random.one_of(&FIGURES);
                 replace_figure(random, &mut lines[at], figure);
             });
@@ -158,7 +164,7 @@ fn damage_lines(random: &mut Random, lines: &mut Vec<Vec<u8>>, kind: u64) {
 }
 
 /// Works on a text line by line.
-fn lines(text: &mut Vec<u8>, work: impl FnOnce(&mut Vec<Vec<u8>>)) {
+pub(super) fn lines(text: &mut Vec<u8>, work: impl FnOnce(&mut Vec<Vec<u8>>)) {
     let mut lines: Vec<Vec<u8>> = text.split_inclusive(|&byte| byte == b'\n').map(<[u8]>::to_vec).collect();
     if !lines.is_empty() {
         work(&mut lines);

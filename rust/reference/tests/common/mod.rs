@@ -7,13 +7,20 @@ use reference::fast::Fast;
 use reference::flat::Flat;
 use reference::hub::{Answer, Calls, Hub};
 use reference::peer::Peer;
-use reference::plan::{read, Plan};
+use reference::plan::{read, Framing, Plan};
 use std::collections::BTreeMap;
 use std::path::{Path, PathBuf};
 
 /// Document 01's plan of the log and of most trial cases.
 pub const PLAN: &str =
     "(frame 100000)\n(overhead 1000)\n(interrupt 13000)\n(hub\n(node)\n(hub\n(node)\n(node)\n)\n(node)\n)\n";
+
+/// The same with a framing's line and its least D.
+pub fn framed(framing: Framing) -> String {
+    let interrupt = format!("(interrupt {})\n", framing.longest_packet() + 1_000);
+    let lines = format!("{interrupt}(framing {})\n", framing.number());
+    PLAN.replace("(interrupt 13000)\n", &lines)
+}
 
 pub fn plan(text: &str) -> Plan {
     read(text.as_bytes()).expect("a good plan").plan

@@ -1,7 +1,7 @@
 //! The log as JSON, one object a line.
 
 use crate::log::{words, Entry};
-use lembuya::{Class, Step};
+use lembuya::{Class, Plan, Step};
 
 /// A text as a JSON string.
 pub fn string(text: &str) -> String {
@@ -18,8 +18,8 @@ pub fn string(text: &str) -> String {
     json + "\""
 }
 
-/// A log's entry as an object. The first entry of a log that refuses speaks of the plan.
-pub fn object(file: &str, entry: &Entry, first: bool) -> String {
+/// An entry as an object, of the log of a text with this plan, or whose plan is refused.
+pub fn object(file: &str, entry: &Entry, plan: Option<&Plan>) -> String {
     let fields = match entry {
         Entry::Taken { nodes, hubs } => format!("\"form\":\"nodes\",\"nodes\":{nodes},\"hubs\":{hubs}"),
         Entry::Step(Step::Grant { time, node, class, end, moves }) => {
@@ -36,7 +36,7 @@ pub fn object(file: &str, entry: &Entry, first: bool) -> String {
         }
         Entry::Step(Step::Quiet) => unreachable!("the log has no line for quiet"),
         Entry::Refused { line, number } => {
-            let words = string(&words(*number, first));
+            let words = string(&words(*line, *number, plan));
             format!("\"form\":\"refused\",\"line\":{line},\"number\":{number},\"words\":{words}")
         }
     };
@@ -56,7 +56,8 @@ mod tests {
     fn each_form_is_an_object() {
         let log = b"(nodes 4 hubs 2)\n(refused 15 1)\n(grant 0 1 1 13000 0)\n(rest 20000 0)\n";
         let log = crate::log::read(log).unwrap();
-        let objects: String = log.iter().map(|entry| object("a", entry, false)).collect();
+        let plan = Plan::read(include_bytes!("../../../../examples/example.text")).unwrap();
+        let objects: String = log.iter().map(|entry| object("a", entry, Some(&plan))).collect();
         assert_eq!(
             objects,
             "{\"file\":\"a\",\"form\":\"nodes\",\"nodes\":4,\"hubs\":2}\n\

@@ -11,9 +11,12 @@ pub const OPTIONS: Options = &[];
 pub const HELP: &str = "\
 lembuya limits TEXT..
 
-The frame's load and each reserved node's delay limit, by the latest accepted reservations of
-each text: a plan and its events. '-' is standard input. Times are bit times, 10 ns each.
+The plan's figures, the frame's load and each reserved node's delay limit, by the latest accepted
+reservations of each text: a plan and its events. '-' is standard input. Times are bit times, 10 ns each.
 
+    framing       3, or 5 where the plan's fourth line says (framing 5): it decides the longest packet,
+                  12,000 or 36,000 bits, above which a request or a reserve is refused by 15;
+                  D is at least 12,000 + O, with (framing 5) 36,000 + O
     load          D plus the sum of n x (b + O): at most T, or a reserve is refused by 17
     share         the node's n x (b + O), and what part of the frame that is
     delay limit   counted from the frame's start: a node whose request stands from there on has
@@ -29,8 +32,9 @@ pub fn command(args: &Args) -> Result<End, Wrong> {
     for file in &args.files {
         let bytes = args::bytes(file)?;
         let entries = log::read(&lembuya::log(&bytes)).expect("the archive writes a log");
-        run::tell(file, &bytes, &entries);
-        match Text::read(&bytes) {
+        let text = Text::read(&bytes);
+        run::tell(file, &bytes, text.as_ref().ok().map(|text| &text.plan), &entries);
+        match text {
             Err(_) => end = End::Refused,
             Ok(text) => {
                 let shares = shares::reserved(&text.plan, &text.accepted(&entries), u64::MAX);
@@ -44,9 +48,10 @@ pub fn command(args: &Args) -> Result<End, Wrong> {
 /// The table of one text.
 fn page(file: &str, plan: &Plan, shares: &[Share]) -> String {
     let (frame, overhead, interrupt) = (plan.frame(), plan.overhead(), plan.interrupt());
+    let (framing, longest) = (plan.framing().number(), plan.longest_packet());
     let load = shares::load(plan, shares);
     let mut page = format!(
-        "{file}: frame {frame} ({} us), overhead {overhead}, interrupt {interrupt}\n\
+        "{file}: frame {frame} ({} us), overhead {overhead}, interrupt {interrupt}, framing {framing}, longest packet {longest}\n\
          load {load} of {frame} bit times, {} %\n",
         microseconds(frame),
         per_cent(load, frame),
@@ -94,13 +99,31 @@ mod tests {
         let shares = [none, none, Share { packets: 2, bits: 4_000 }, none];
         assert_eq!(
             page("a", &plan, &shares),
-            "a: frame 100000 (1000.00 us), overhead 1000, interrupt 13000\n\
+            "a: frame 100000 (1000.00 us), overhead 1000, interrupt 13000, framing 3, longest packet 12000\n\
              load 23000 of 100000 bit times, 23.00 %\n\
              node   n      b    share  share %  delay limit  delay limit us\n   \
                 3   2   4000    10000    10.00        23000          230.00\n"
         );
         assert!(page("a", &plan, &[none])
             .ends_with("load 13000 of 100000 bit times, 13.00 %\nnothing is reserved\n"));
+    }
+
+    #[test]
+    fn a_page_of_framing_5() {
+        let text =
+            "(frame 200000)\n(overhead 1000)\n(interrupt 40000)\n(framing 5)\n(hub\n(node)\n(node)\n)\n";
+        let plan = Plan::read(text.as_bytes()).unwrap();
+        let shares = [Share { packets: 1, bits: 36_000 }, Share { packets: 3, bits: 4_000 }];
+        // c is 36,000 + 1,000 = 37,000 and 4,000 + 1,000 = 5,000. Load: 40,000 + 1 × 37,000 + 3 × 5,000 = 92,000, 46 % of T.
+        // Node 1: 40,000 + 37,000 + min(1, 3) × 5,000 = 82,000. Node 2: 40,000 + 15,000 + min(3, 1) × 37,000 = 92,000.
+        assert_eq!(
+            page("ring", &plan, &shares),
+            "ring: frame 200000 (2000.00 us), overhead 1000, interrupt 40000, framing 5, longest packet 36000\n\
+             load 92000 of 200000 bit times, 46.00 %\n\
+             node   n      b    share  share %  delay limit  delay limit us\n   \
+                1   1  36000    37000    18.50        82000          820.00\n   \
+                2   3   4000    15000     7.50        92000          920.00\n"
+        );
     }
 
     #[test]

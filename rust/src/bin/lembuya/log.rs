@@ -1,6 +1,6 @@
 //! The log's lines as values.
 
-use lembuya::{Class, Plan, PlanRow, Refused, Step};
+use lembuya::{Class, Plan, PlanRefused, PlanRow, Refused, Step};
 
 /// A line of the log.
 #[derive(Clone, Copy, Debug, PartialEq, Eq)]
@@ -54,8 +54,8 @@ impl Entry {
     }
 }
 
-/// No time of a log lies behind this one: the end of the longest packet of any plan, granted at the latest time. A log
-/// alone doesn't tell its plan's own figures, so those of every plan are taken.
+/// No time of a log lies behind this one: the end of the longest packet of any plan, which is framing 5's, granted at the
+/// latest time. A log alone doesn't tell its plan's own figures, so those of every plan are taken.
 pub const LATEST: u64 = Plan::LATEST_TIME + Plan::LONGEST_PACKET + Plan::LARGEST_OVERHEAD;
 
 /// A log's lines, without their LF; that of the last one may be missing.
@@ -69,14 +69,25 @@ pub fn read(bytes: &[u8]) -> Result<Vec<Entry>, usize> {
     lines(bytes).into_iter().enumerate().map(read).collect()
 }
 
-/// The words of document 01's table for a number; a plan's row 1 and an event line's row 1 differ.
-pub fn words(number: u64, of_plan: bool) -> String {
-    let plan = PlanRow::numbered(number).map(|row| row.to_string());
-    match (plan, Refused::numbered(number)) {
-        (Some(_), _) if number == 1 && !of_plan => "no form above, or its LF is missing".into(),
-        (Some(words), _) => words,
-        (None, Some(row)) => row.to_string(),
-        (None, None) => "no row has this number".into(),
+/// The words of the documents' tables for `(refused line number)` in the log of a text with this plan, or whose plan is refused.
+/// A plan's row 1 and an event line's row 1 differ, row 2 asks the line, and row 15 the plan.
+pub fn words(line: u64, number: u64, plan: Option<&Plan>) -> String {
+    let words = match plan {
+        None => PlanRow::numbered(number).map(|row| PlanRefused { line, row }.words().into()),
+        Some(_) if number == 1 => Some("no form above, or its LF is missing".into()),
+        Some(plan) => Refused::numbered(number).map(|row| event_words(row, plan)),
+    };
+    words.unwrap_or_else(|| "no row has this number".into())
+}
+
+/// A row's words for an event, with the figure of the plan that row 15 leaves open.
+fn event_words(row: Refused, plan: &Plan) -> String {
+    match row {
+        Refused::Length => {
+            let lengths = format!("512 to the plan's longest packet, here {}", plan.longest_packet());
+            format!("b outside {lengths}; in a reserve with n = 0 instead: b not 0")
+        }
+        other => other.to_string(),
     }
 }
 
@@ -110,17 +121,50 @@ mod tests {
         assert_eq!(read(b""), Err(1));
     }
 
+    /// 10^15, 36,000 bits and an overhead of 50,000.
+    #[test]
+    fn the_latest_end_is_that_of_framing_5() {
+        let grant = |end: u64| read(format!("(grant 1000000000000000 1 1 {end} 0)\n").as_bytes());
+        assert!(grant(1_000_000_000_086_000).is_ok());
+        assert_eq!(grant(1_000_000_000_086_001), Err(1));
+    }
+
     #[test]
     fn each_number_has_its_rows_words() {
-        assert_eq!(words(2, true), "T, O or D out of range");
-        assert_eq!(words(17, false), "the frame can't hold it");
-        assert_eq!(words(1, false), "no form above, or its LF is missing");
-        assert!(words(1, true).starts_with("not the form allowed here"));
-        let numbers = (1..=3).chain(11..=17);
-        assert!(numbers.clone().all(|number| words(number, true) != words(99, true)));
-        assert_eq!(
-            numbers.map(|number| words(number, true)).collect::<std::collections::HashSet<_>>().len(),
-            10
-        );
+        let plan = plan("");
+        let of_plan = |line, number| words(line, number, None);
+        let of_event = |number| words(9, number, Some(&plan));
+        assert_eq!(of_plan(1, 2), "T, O or D out of range");
+        assert_eq!(of_plan(3, 2), "T, O or D out of range");
+        assert_eq!(of_plan(4, 2), "D too small for framing 5, which needs 36,000 + O");
+        assert_eq!(of_plan(4, 4), "the number is neither 3 nor 5");
+        assert!(of_plan(1, 1).starts_with("not the form allowed here"));
+        assert_eq!(of_event(1), "no form above, or its LF is missing");
+        assert_eq!(of_event(17), "the frame can't hold it");
+        let rows = (1..=4).map(|number| of_plan(1, number)).chain((11..=17).map(of_event));
+        assert_eq!(rows.chain([of_event(1)]).collect::<std::collections::HashSet<_>>().len(), 12);
+        // A plan's rows are no event's, and an event's no plan's.
+        let none = "no row has this number";
+        assert!((2..=4).all(|number| of_event(number) == none));
+        assert!((11..=17).all(|number| of_plan(1, number) == none));
+        assert!([0, 5, 18, 99].iter().all(|&number| of_event(number) == none && of_plan(1, number) == none));
+    }
+
+    #[test]
+    fn row_15_has_the_plans_figure() {
+        for (line, longest) in [("", "12000"), ("(framing 3)\n", "12000"), ("(framing 5)\n", "36000")] {
+            let found = words(9, 15, Some(&plan(line)));
+            assert!(
+                found.starts_with(&format!("b outside 512 to the plan's longest packet, here {longest}; "))
+            );
+            // Without the figure they are the row's own words.
+            assert_eq!(found.replace(&format!(", here {longest}"), ""), Refused::Length.to_string());
+        }
+    }
+
+    /// A plan with a framing line, or without.
+    fn plan(framing: &str) -> Plan {
+        let figures = "(frame 100000)\n(overhead 1000)\n(interrupt 37000)\n";
+        Plan::read(format!("{figures}{framing}(hub\n(node)\n)\n").as_bytes()).unwrap()
     }
 }

@@ -22,7 +22,12 @@ lembuya: the cascade hub's turns, from a plan and its events
     lembuya limits  TEXT..           the frame's load, and each reserved node's delay limit
     lembuya picture TEXT [LOG]       a picture of the log, as SVG
 
-TEXT holds a plan and events, as document 01 writes them; '-' is standard input.
+TEXT holds a plan and events, as documents 01 and 02 write them; '-' is standard input. The plan's lines:
+
+    (frame T)  (overhead O)  (interrupt D)  perhaps (framing 3) or (framing 5)  then one hub
+
+D is at least 12,000 + O, with (framing 5) 36,000 + O.
+
 'lembuya run --help' and so on say more.
 
 Exit status: 0; 1 where a plan is refused; 2 for bad usage, a file that can't be read included.

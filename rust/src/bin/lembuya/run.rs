@@ -2,7 +2,8 @@
 
 use crate::args::{self, Args, Options, Wrong};
 use crate::log::{self, Entry};
-use crate::{json, End};
+use crate::{json, text, End};
+use lembuya::Plan;
 
 pub const OPTIONS: Options = &[("--json", false), ("--quiet", false)];
 
@@ -27,8 +28,9 @@ pub fn command(args: &Args) -> Result<End, Wrong> {
         let bytes = args::bytes(file)?;
         let written = lembuya::log(&bytes);
         let entries = log::read(&written).expect("the archive writes a log");
+        let plan = text::plan(&bytes).ok();
         if args.has("--json") {
-            let objects = entries.iter().enumerate().map(|(at, entry)| json::object(file, entry, at == 0));
+            let objects = entries.iter().map(|entry| json::object(file, entry, plan.as_ref()));
             args::print(&objects.collect::<String>())?;
         } else {
             if args.files.len() > 1 {
@@ -37,7 +39,7 @@ pub fn command(args: &Args) -> Result<End, Wrong> {
             args::print(&String::from_utf8_lossy(&written))?;
         }
         if !args.has("--quiet") {
-            tell(file, &bytes, &entries);
+            tell(file, &bytes, plan.as_ref(), &entries);
         }
         if matches!(entries[0], Entry::Refused { .. }) {
             end = End::Refused;
@@ -46,12 +48,12 @@ pub fn command(args: &Args) -> Result<End, Wrong> {
     Ok(end)
 }
 
-/// Says which lines of a text are refused, and why.
-pub fn tell(file: &str, bytes: &[u8], entries: &[Entry]) {
+/// Says which lines of a text are refused, and why. It has this plan, if that is taken.
+pub fn tell(file: &str, bytes: &[u8], plan: Option<&Plan>, entries: &[Entry]) {
     let lines: Vec<&[u8]> = bytes.split(|byte| *byte == b'\n').collect();
-    for (at, entry) in entries.iter().enumerate() {
+    for entry in entries {
         if let Entry::Refused { line, number } = entry {
-            let words = log::words(*number, at == 0);
+            let words = log::words(*line, *number, plan);
             let shown =
                 usize::try_from(*line).ok().and_then(|line| lines.get(line - 1)).copied().unwrap_or_default();
             let shown: String = String::from_utf8_lossy(shown).chars().take(80).collect();

@@ -23,11 +23,20 @@ pub struct Text {
     pub events: Vec<Event>,
 }
 
+/// What is looked at of a text.
+fn looked_at(bytes: &[u8]) -> &[u8] {
+    &bytes[..bytes.len().min(lembuya::LONGEST_TEXT)]
+}
+
+/// The plan of a text. The archive decides whether it is taken.
+pub fn plan(bytes: &[u8]) -> Result<Plan, PlanRefused> {
+    Plan::read(looked_at(bytes))
+}
+
 impl Text {
-    /// Reads a text. The archive decides whether its plan is taken.
+    /// Reads a text, if its plan is taken.
     pub fn read(bytes: &[u8]) -> Result<Text, PlanRefused> {
-        let bytes = &bytes[..bytes.len().min(lembuya::LONGEST_TEXT)];
-        let plan = Plan::read(bytes)?;
+        let (plan, bytes) = (plan(bytes)?, looked_at(bytes));
         let behind = plan.events();
         let lines = (behind.line..).zip(bytes[behind.at..].split(|byte| *byte == b'\n'));
         let event = |(line, bytes)| {

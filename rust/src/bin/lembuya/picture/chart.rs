@@ -184,7 +184,8 @@ impl Chart {
             let node = event.call.node().filter(|node| (1..=text.plan.nodes()).contains(node));
             let (row, at) = (node.map(|node| places.node[node as usize - 1]), event.call.time());
             if let (Some(row), true) = (row, (self.from..self.to).contains(&at)) {
-                let title = format!("(refused {line} {number}): {}", crate::log::words(*number, false));
+                let words = crate::log::words(*line, *number, Some(&text.plan));
+                let title = format!("(refused {line} {number}): {words}");
                 self.refusals.push(Mark { row, at, title });
             }
         }
@@ -278,6 +279,19 @@ mod tests {
         assert_eq!(chart.limits.iter().map(|mark| (mark.row, mark.at)).collect::<Vec<_>>(), [(4, 123_000)]);
         assert_eq!(chart.refusals.iter().map(|mark| (mark.row, mark.at)).collect::<Vec<_>>(), [(4, 0)]);
         assert!(chart.refusals[0].title.starts_with("(refused 15 16): "));
+    }
+
+    #[test]
+    fn packets_of_framing_5_have_their_length() {
+        let text =
+            b"(frame 200000)\n(overhead 1000)\n(interrupt 37000)\n(framing 5)\n(hub\n(node)\n(node)\n)\n\
+            (reserve 0 2 1 36000)\n(normal 0 1 36000)\n(high 200000 2 36000)\n(until 400000)\n";
+        let entries = crate::log::read(&lembuya::log(text)).unwrap();
+        let chart = Chart::new("", Text::read(text).ok().as_ref(), &entries, None, None).unwrap();
+        // Each packet has 36,000 + 1,000 bit times; the limit is 200,000 + D + 1 × 37,000.
+        let bars: Vec<_> = chart.bars.iter().map(|bar| (bar.row, bar.from, bar.to)).collect();
+        assert_eq!(bars, [(1, 0, 37_000), (2, 200_000, 237_000)]);
+        assert_eq!(chart.limits.iter().map(|mark| (mark.row, mark.at)).collect::<Vec<_>>(), [(2, 274_000)]);
     }
 
     #[test]

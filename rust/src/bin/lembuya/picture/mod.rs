@@ -47,7 +47,7 @@ pub fn command(args: &Args) -> Result<End, Wrong> {
             let made = lembuya::log(&bytes);
             let entries = log::read(&made).expect("the archive writes a log");
             let Ok(text) = Text::read(&bytes) else {
-                run::tell(file, &bytes, &entries);
+                run::tell(file, &bytes, None, &entries);
                 return Ok(End::Refused);
             };
             log.map_or(Ok(()), |(other, bytes)| same(other, &bytes, file, &made))?;

@@ -74,11 +74,13 @@ impl Places {
         match text {
             None => format!("{} nodes; times in bit times (10 ns)", self.node.len()),
             Some(Text { plan, .. }) => format!(
-                "{} nodes, {hubs} hubs; frame {}, overhead {}, interrupt {} bit times (10 ns)",
+                "{} nodes, {hubs} hubs; frame {}, overhead {}, interrupt {} bit times (10 ns); framing {}, longest packet {} bits",
                 self.node.len(),
                 plan.frame(),
                 plan.overhead(),
-                plan.interrupt()
+                plan.interrupt(),
+                plan.framing().number(),
+                plan.longest_packet()
             ),
         }
     }
@@ -109,5 +111,22 @@ mod tests {
             ]
         );
         assert_eq!((places.node, places.holder), (vec![1, 3, 5, 6, 7], vec![0, 2, 4, 2, 0]));
+    }
+
+    #[test]
+    fn figures_are_the_plans() {
+        let figures = |text: &str| {
+            let text = Text::read(text.as_bytes()).ok();
+            Places::new(text.as_ref(), &[]).figures(text.as_ref())
+        };
+        let tree = "(hub\n(node)\n(hub\n(node)\n)\n)\n";
+        assert_eq!(
+            figures(&format!("(frame 100000)\n(overhead 1000)\n(interrupt 13000)\n{tree}")),
+            "2 nodes, 2 hubs; frame 100000, overhead 1000, interrupt 13000 bit times (10 ns); framing 3, longest packet 12000 bits"
+        );
+        assert_eq!(
+            figures(&format!("(frame 100000)\n(overhead 1000)\n(interrupt 37000)\n(framing 5)\n{tree}")),
+            "2 nodes, 2 hubs; frame 100000, overhead 1000, interrupt 37000 bit times (10 ns); framing 5, longest packet 36000 bits"
+        );
     }
 }

@@ -1,7 +1,7 @@
 -- `in_range` meets its contract: each return by the tests that led there.
 use borrow.Author.Tests.{le-leb, lt-leb}
-use Rattle.plan.proofs.in_range.Statement.{statement}
-use Rattle.plan.proofs.in_range.Tie as tie
+use Rattle.header.proofs.in_range.Statement.{statement}
+use Rattle.header.proofs.in_range.Tie as tie
 
 returns : tie.Need-returns
 returns c =

@@ -1,9 +1,9 @@
--- `figure_at` meets its contract, by the laws of PlanLaws: one a return.
+-- `figure_at` meets its contract, by the laws of LineLaws: one a return.
 use mathlib.Core.Path.{sym, _∙_}
-use Rattle.plan.proofs.PlanLaws.{figure-numbers, figure-none, figure-unended, figure-done}
+use Rattle.header.proofs.LineLaws.{figure-numbers, figure-none, figure-unended, figure-done}
 use borrow.Author.Needs.{needs}
-use Rattle.plan.proofs.figure_at.Statement.{statement}
-use Rattle.plan.proofs.figure_at.Tie as tie
+use Rattle.header.proofs.figure_at.Statement.{statement}
+use Rattle.header.proofs.figure_at.Tie as tie
 
 line-at-requires : tie.Need-line-at-requires
 line-at-requires c κs = search needs

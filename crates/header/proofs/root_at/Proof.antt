@@ -1,10 +1,10 @@
--- `root_at` meets its contract, by the laws of PlanLaws: one a return.
+-- `root_at` meets its contract, by the laws of LineLaws: one a return.
 use mathlib.Core.Path.{sym, _∙_}
 use Rattle.plan_tree.proofs.Cited.Tags.{not-hub}
-use Rattle.plan.proofs.PlanLaws.{root-hub, root-other, root-unended, root-done}
+use Rattle.header.proofs.LineLaws.{root-hub, root-other, root-unended, root-done}
 use borrow.Author.Needs.{needs}
-use Rattle.plan.proofs.root_at.Statement.{statement}
-use Rattle.plan.proofs.root_at.Tie as tie
+use Rattle.header.proofs.root_at.Statement.{statement}
+use Rattle.header.proofs.root_at.Tie as tie
 
 line-at-requires : tie.Need-line-at-requires
 line-at-requires c κs = search needs
