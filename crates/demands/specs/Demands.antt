@@ -48,7 +48,7 @@ use Rattle.refinement.specs.Written.{FewWrites}
 
 -- Demand 2, of plans
 pub record PlanDemands (text : List ℕ) : Type 0 where
-  -- a text is taken just where it starts with the drawing of a tree within the limits, behind good figures
+  -- a text is taken just where it starts with the drawing of a tree within the limits, behind good figures and a framing
   pub taken-iff : ((nodes : ℕ) × (hubs : ℕ) × (at : ℕ) × (line : ℕ) × TakenAs text nodes hubs at line) ↔ DrawnBy text
   -- and then for just the hubs, ports, nodes and figures that its lines draw
   pub taken-for : (d : DrawnBy text) → TakenFor text (d .fig) (d .tree) (d .rest)

@@ -4,9 +4,10 @@ use mathlib.Core.Path.{_≡_, refl, sym, ap, _∙_}
 use mathlib.Core.Bool.{Bool, true, false, _||_, false≢true}
 use native.Mathlib.Omega.{arith}
 use mathlib.Core.List.{List, [], _∷_}
-use lib.Dec.{eqb}
-use borrow.Author.Tests.{eq-eqb, ne-eqb, eqb-true, lt-ltb, le-ltb}
+use lib.Dec.{eqb, ltb}
+use borrow.Author.Tests.{eq-eqb, ne-eqb, eqb-true, lt-ltb, le-ltb, ltb-true, ltb-false}
 use Rattle.rules.specs.Choice.{if_then_else_}
+use Rattle.rules.proofs.Laws.Passes.{Which, which, yes′, no′}
 use Rattle.rules.specs.Plan.{longestIn}
 use Rattle.text.specs.declared.Cursor.{Cursor}
 use Rattle.header.specs.declared.Figure.the-variants.{Got, Not}
@@ -73,12 +74,20 @@ known-small framing e = go (eqb framing 3) (eqb framing 5) refl refl e
     go false true f g h = omega (arith, eqb-true framing 5 g)
     go false false f g h = absurd (false≢true h)
 
-pub framing-small : (O D framing : ℕ) → framingRow O D framing ≡ 0 → framing ≤ 5
-framing-small O D framing e = go (eqb framing 3 || eqb framing 5) refl
+-- what the rows leave is a known framing, and a D that its longest packet fits
+pub row-passed : (O D framing : ℕ) → framingRow O D framing ≡ 0 → ((eqb framing 3 || eqb framing 5) ≡ true) × (longestIn framing + O ≤ D)
+row-passed O D framing e = by-framing (which (eqb framing 3 || eqb framing 5))
   where
-    go : (b : Bool) → (eqb framing 3 || eqb framing 5) ≡ b → framing ≤ 5
-    go true f = known-small framing f
-    go false f = let h : _≡_ {A = ℕ} 4 0 = row-unknown O D framing f ∙ e in absurd (omega arith)
+    fits : (eqb framing 3 || eqb framing 5) ≡ true → Which (ltb D (longestIn framing + O)) → longestIn framing + O ≤ D
+    fits known (no′ f) = ltb-false D (longestIn framing + O) f
+    fits known (yes′ f) = absurd (omega (arith, row-short O D framing known (ltb-true D (longestIn framing + O) f) ∙ e))
+
+    by-framing : Which (eqb framing 3 || eqb framing 5) → ((eqb framing 3 || eqb framing 5) ≡ true) × (longestIn framing + O ≤ D)
+    by-framing (yes′ known) = (known, fits known (which (ltb D (longestIn framing + O))))
+    by-framing (no′ other) = absurd (omega (arith, row-unknown O D framing other ∙ e))
+
+pub framing-small : (O D framing : ℕ) → framingRow O D framing ≡ 0 → framing ≤ 5
+framing-small O D framing e = known-small framing (row-passed O D framing e .0)
 
 -- behind a figure, by what it is
 module _ (text : List ℕ) (left : ℕ) where

@@ -11,7 +11,7 @@ use Rattle.plan.specs.declared.Answer.the-variants.{Taken, Refused}
 use Rattle.plan.specs.Tables.{Figures, planOf}
 use Rattle.plan_tree.specs.Tables.{hubOfNode, portOfNode}
 use Rattle.plan.specs.Reading.{reading}
-use Rattle.plan_theory.specs.Tree.{Header, figuresOf, Hub, draw, nodesIn, hubsIn, limits, goodFigures, goodFraming, tablesOf}
+use Rattle.plan_theory.specs.Tree.{Header, figuresOf, Port, node, empty, hub, Hub, close, port, draw, nodesAt, nodesIn, hubsAt, hubsIn, limits, goodFigures, goodFraming, tablesOf}
 use Rattle.plan_theory.specs.Behind.{linesOf, past}
 
 -- a text starts with the drawing of a tree within the limits, behind good figures and a framing that there is, whatever follows it
@@ -38,11 +38,24 @@ pub record FiguresTold (p : rules.Plan) (fig : Figures) : Type 0 where
   pub interrupt : p .interrupt ≡ fig .interrupt
   pub framing : p .framing ≡ fig .framing
 
+-- The plan has the tree's ports, numbered in line order: at port q of hub g what is drawn there, behind n nodes and
+-- h hubs; and at the ports of hub g behind port q what is drawn there, which are its last.
+unfoldable mutual
+  pub PortTold : rules.Plan → Port → ℕ → ℕ → ℕ → ℕ → Type 0
+  PortTold p node g q n h = p .port g q ≡ rules.node (n + 1)
+  PortTold p empty g q n h = p .port g q ≡ rules.empty
+  PortTold p (hub x) g q n h = (p .port g q ≡ rules.hub (h + 1)) × HubTold p x (h + 1) 0 n (h + 1)
+
+  pub HubTold : rules.Plan → Hub → ℕ → ℕ → ℕ → ℕ → Type 0
+  HubTold p close g q n h = p .ports g ≡ q
+  HubTold p (port x y) g q n h = PortTold p x g (q + 1) n h × HubTold p y g (q + 1) (n + nodesAt x) (h + hubsAt x)
+
 -- the text is taken for this tree and the figures that its header's lines draw, framing 3 without a line; `rest` is what stands behind it
 pub record TakenFor (text : List ℕ) (fig : Header) (h : Hub) (rest : Lines) : Type 0 where
   pub answer : TakenAs text (nodesIn h) (hubsIn h) (past fig h .at) (past fig h .number)
   pub tables : reading text .tables ≡ tablesOf (figuresOf fig) h
   pub figures : FiguresTold (planOf (reading text .tables)) (figuresOf fig)
+  pub ports : HubTold (planOf (reading text .tables)) h 1 0 0 1
   pub behind : lines (drop (past fig h .at) text) ≡ rest
   pub number : 1 + linesOf fig h < 2 ^ 64 → past fig h .number ≡ 1 + linesOf fig h
 

@@ -7,6 +7,7 @@ use common::{framed, PLAN};
 use reference::log::{log, LONGEST_TEXT};
 use reference::peer;
 use reference::plan::{draw, read, Framing, Plan};
+use reference::random::framings::{NEITHER, NO_FORMS, TAKEN};
 use reference::random::{plans, texts, Random};
 
 /// T is 200,000 and O 1,000, so D starts at 13,000 on its own line and at 37,000
@@ -35,45 +36,6 @@ fn fourth_line(forms: &[&str], interrupts: &[u64], expected: Option<(u64, u32)>)
     }
 }
 
-const NO_FORMS: [&str; 20] = [
-    "(framing)",
-    "(framing )",
-    "(framing 03)",
-    "(framing 05)",
-    "(framing 00)",
-    "(framing 0000000000000003)",
-    "(framing 30000000000000000)",
-    "(framing 50000000000000000)",
-    "(framing 10000000000000004)",
-    "(framing 18446744073709551619)",
-    "(framing -3)",
-    "(framing +5)",
-    "(framing 3 5)",
-    "(framing 3 )",
-    "(framing  3)",
-    "(framing 3",
-    " (framing 3)",
-    "(framing 5) ",
-    "(Framing 5)",
-    "(framing 5)\r",
-];
-
-/// Numbers that are forms; some would be 3 or 5 in 8, 16 or 32 bits.
-const NEITHER: [&str; 12] = [
-    "(framing 0)",
-    "(framing 1)",
-    "(framing 2)",
-    "(framing 4)",
-    "(framing 6)",
-    "(framing 35)",
-    "(framing 259)",
-    "(framing 65541)",
-    "(framing 4294967299)",
-    "(framing 4294967301)",
-    "(framing 3000000000000000)",
-    "(framing 9999999999999999)",
-];
-
 /// "On the framing line": 1, then 4, then 2, each whatever the later ones say.
 #[test]
 fn rows_1_4_and_2_in_this_order() {
@@ -88,7 +50,7 @@ fn rows_1_4_and_2_in_this_order() {
 /// "D below 12,000 + O is 2 on its own line, as before", and so is one above T.
 #[test]
 fn the_line_above_decides_first() {
-    for forms in [&NO_FORMS[..], &NEITHER[..], &["(framing 3)", "(framing 5)"]] {
+    for forms in [&NO_FORMS[..], &NEITHER, &TAKEN] {
         fourth_line(forms, &[0, 12_000, 12_999, 200_001], Some((3, 2)));
     }
     assert_eq!(refused(&header("(interrupt 12999)\n")), Some((3, 2)));

@@ -9,7 +9,7 @@ use Rattle.rules.specs.Drawn.{Within, Drawn}
 use Rattle.plan_tree.specs.Tables.{cells, noTable, putRoot, hubOfNode, portOfNode, levelCell, portsCell}
 use Rattle.plan.specs.Tables.{Figures, planOf}
 use Rattle.plan_theory.specs.Tree.{Hub, portsOf, nodesIn, hubsIn, limits, goodFigures, Filled, filled, tablesOf}
-use Rattle.plan_theory.specs.Taken.{FiguresTold, Holds}
+use Rattle.plan_theory.specs.Taken.{FiguresTold, HubTold, Holds}
 use Rattle.plan_theory.proofs.Tables.Regions.{hub-later, head-own}
 use Rattle.plan_theory.proofs.Tables.Puts.{cell, figures-other, root-length, root-level}
 use Rattle.plan_theory.proofs.Tables.Room.{root-room}
@@ -18,7 +18,7 @@ use Rattle.plan_theory.proofs.Tables.Filling.{counted-hub, kept-hub}
 use Rattle.plan_theory.proofs.Tables.Shown.{HubShows, shown-hub}
 use Rattle.plan_theory.proofs.Tables.Above.{above, above-runs, runs-first, runs-last}
 use Rattle.plan_theory.proofs.Tables.Parts.{HubGood, HubHangs, NodeStands, Parts, join, only}
-use Rattle.plan_theory.proofs.Tables.Facts.{shown-ports, parts-hub}
+use Rattle.plan_theory.proofs.Tables.Facts.{shown-ports, parts-hub, hub-told}
 use Rattle.plan_theory.proofs.Tables.Heads.{frame-is, overhead-is, interrupt-is, framing-is, nodes-is, hubs-is, figures-good}
 
 abbrev start : Filled
@@ -69,6 +69,9 @@ module _ (fig : Figures) (x : Hub) where
 
     shows : HubShows x (tablesOf fig x) 1 0 1 0 1
     shows = shown-hub x (tablesOf fig x) 1 0 1 start (root-room x lim) start-full (λ a f w. same a (w .figures))
+
+    pub ports-are : HubTold (planOf (tablesOf fig x)) x 1 0 0 1
+    ports-are = hub-told x (tablesOf fig x) 1 0 1 0 1 (root-room x lim) shows
 
     root-ports : cell (tablesOf fig x) (portsCell 1) ≡ 0 + portsOf x
     root-ports = shown-ports x (tablesOf fig x) 1 0 1 0 1 shows

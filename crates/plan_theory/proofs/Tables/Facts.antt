@@ -9,7 +9,7 @@ use Rattle.rules.specs.Drawn.{Covers, Hung}
 use Rattle.plan_tree.specs.Tables.{portCell, hub-code, portOf, hubOfNode, portOfNode, levelCell, portsCell}
 use Rattle.plan.specs.Tables.{planOf}
 use Rattle.plan_theory.specs.Tree.{Port, node, empty, hub, Hub, close, port, portsOf, nodesAt, nodesIn, hubsAt, hubsIn, levelsAt}
-use Rattle.plan_theory.specs.Taken.{Holds}
+use Rattle.plan_theory.specs.Taken.{Holds, PortTold, HubTold}
 use Rattle.plan_theory.proofs.Tables.Puts.{cell}
 use Rattle.plan_theory.proofs.Tables.Room.{Room, RoomAt, first-room, rest-room, inner-room}
 use Rattle.plan_theory.proofs.Tree.Room.{one-hub, one-level}
@@ -168,3 +168,20 @@ mutual
       (runs-first y above g (q + 1) (n + nodesAt x) (h + hubsAt x) (u .2)))
       (parts-hub y t above g (q + 1) l (n + nodesAt x) (h + hubsAt x) (rest-room x y g q l n h r)
       (record { level = a .level; ports = omega arith; hubs = omega (arith, a .hubs) }) (s .1) (u .2)))
+
+-- the plan that such tables are has what the tree has at each port
+mutual
+  unfolding PortShows PortTold nodesAt planOf
+
+  pub port-told : (x : Port) (t : List ℕ) (g q l n h : ℕ) → RoomAt x g q l n h → PortShows x t g q l n h → PortTold (planOf t) x g q n h
+  port-told node t g q l n h r s = ap portOf (s .port) ∙ port-node (n + 1) (omega arith) (r .room .atNodes)
+  port-told empty t g q l n h r s = ap portOf s
+  port-told (hub x) t g q l n h r s =
+      (ap portOf (s .0 .port) ∙ port-hub (h + 1) (omega arith), hub-told x t (h + 1) 0 (l + 1) n (h + 1) (inner-room x g q l n h r) (s .1))
+
+  pub hub-told : (x : Hub) (t : List ℕ) (g q l n h : ℕ) → Room x g q l n h → HubShows x t g q l n h → HubTold (planOf t) x g q n h
+  hub-told close t g q l n h r s = s
+  hub-told (port x y) t g q l n h r s = (
+    port-told x t g (q + 1) l n h (first-room x y g q l n h r) (s .0),
+    hub-told y t g (q + 1) l (n + nodesAt x) (h + hubsAt x) (rest-room x y g q l n h r) (s .1),
+  )

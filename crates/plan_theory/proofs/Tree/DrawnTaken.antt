@@ -19,8 +19,8 @@ use Rattle.plan.specs.Tables.{Figures, planOf}
 use Rattle.plan.specs.Reading.{Read, next, framingRow, rootLine, framingLine, interruptLine, overheadLine, frameLine, reading}
 use Rattle.plan_theory.specs.Tree.{Header, figuresOf, Hub, draw, drawHub, nodesIn, hubsIn, limits, goodFigures, goodFraming, Filled, filled, tablesOf}
 use Rattle.plan_theory.specs.Behind.{linesOf, pastInterrupt, pastFigures, past}
-use Rattle.plan_theory.specs.Taken.{FiguresTold, TakenFor}
-use Rattle.plan_theory.proofs.Tables.Drawn.{figures-are}
+use Rattle.plan_theory.specs.Taken.{FiguresTold, HubTold, TakenFor}
+use Rattle.plan_theory.proofs.Tables.Drawn.{figures-are, ports-are}
 use Rattle.plan_theory.proofs.Tree.Room.{limits-room}
 use Rattle.plan_theory.proofs.Tree.Count.{nodes-in, hubs-in, count-lines, behind-draw}
 use Rattle.plan_theory.proofs.Tree.Drawn.{shut, hub-drawn}
@@ -65,6 +65,7 @@ module _
           answer = ap (λ (r : Read). r .answer) t ∙ rw (n, m);
           tables = c;
           figures = subst (λ (cells : List ℕ). FiguresTold (planOf cells) (figuresOf fig)) (sym c) (figures-are (figuresOf fig) h);
+          ports = subst (λ (cells : List ℕ). HubTold (planOf cells) h 1 0 0 1) (sym c) (ports-are (figuresOf fig) h (limits-room h within .0));
           behind = behind-draw text fig h rest e;
           number = λ few. omega (arith, count-lines fig h);
         }

@@ -1,23 +1,21 @@
 -- The figures of a plan: their ranges as facts, which framings are known and what the framing's rows leave, and
 -- a figure's line read from its drawing. Assumes nothing.
 use Prim.Native.Nat.{ℕ, _+_, _≤_, _<_, _^_}
-use mathlib.Core.Path.{_≡_, refl, sym, _∙_}
-use mathlib.Core.Bool.{true, _&&_, _||_}
-use mathlib.Core.Logic.{_⊎_, ⊎-elim}
+use mathlib.Core.Path.{_≡_, refl, sym}
+use mathlib.Core.Bool.{true, _&&_}
 use mathlib.Core.List.{List, [], _∷_}
 use native.Mathlib.Omega.{arith}
-use borrow.Author.Tests.{leb-true, le-leb, ltb-true, ltb-false, eqb-true, eq-eqb}
-use lib.Dec.{eqb, leb, ltb}
+use borrow.Author.Tests.{leb-true, le-leb}
+use lib.Dec.{leb}
 use lib.ListN.{length, getD}
 use Rattle.rules.specs.Plan.{longestIn}
-use Rattle.rules.proofs.Laws.Passes.{Which, which, yes′, no′, or-left, or-right, or-cases}
 use Rattle.text.specs.Form.{drawForm, readForm}
 use Rattle.text.specs.declared.Cursor.{Cursor}
 use Rattle.text.proofs.Words.{both}
 use Rattle.text.proofs.Forms.{read-drawn}
 use Rattle.plan.specs.Tables.{Figures}
 use Rattle.plan.specs.Reading.{Read, figure, framingRow}
-use Rattle.plan.proofs.PlanLaws.{row-none, row-short, row-unknown}
+use Rattle.plan.proofs.PlanLaws.{row-none, row-passed, known-small}
 use Rattle.plan_theory.specs.Tree.{goodFigures, goodFraming}
 
 -- the ranges of document 01
@@ -59,21 +57,9 @@ ranges-good fig r =
     )
 
 module _ (fig : Figures) where
-  pub framing-known : goodFraming fig ≡ true → (fig .framing ≡ 3) ⊎ (fig .framing ≡ 5)
-  unfolding goodFraming
-  framing-known e = go (or-cases (eqb (fig .framing) 3) (eqb (fig .framing) 5) e)
-    where
-      go : (eqb (fig .framing) 3 ≡ true) ⊎ (eqb (fig .framing) 5 ≡ true) → (fig .framing ≡ 3) ⊎ (fig .framing ≡ 5)
-      go (_⊎_.inl h) = _⊎_.inl (eqb-true (fig .framing) 3 h)
-      go (_⊎_.inr h) = _⊎_.inr (eqb-true (fig .framing) 5 h)
-
-  pub known-framing : (fig .framing ≡ 3) ⊎ (fig .framing ≡ 5) → goodFraming fig ≡ true
-  unfolding goodFraming
-  known-framing (_⊎_.inl h) = or-left (eqb (fig .framing) 3) (eqb (fig .framing) 5) (eq-eqb (fig .framing) 3 h)
-  known-framing (_⊎_.inr h) = or-right (eqb (fig .framing) 3) (eqb (fig .framing) 5) (eq-eqb (fig .framing) 5 h)
-
   pub framing-small : goodFraming fig ≡ true → fig .framing < 10 ^ 16
-  framing-small e = ⊎-elim (λ h. omega arith) (λ h. omega arith) (framing-known e)
+  unfolding goodFraming
+  framing-small e = omega (arith, known-small (fig .framing) e)
 
   -- what the framing's rows leave is a known framing, and an interrupt time that its longest packet fits
   pub no-row : goodFraming fig ≡ true → longestIn (fig .framing) + fig .overhead ≤ fig .interrupt
@@ -81,22 +67,10 @@ module _ (fig : Figures) where
   unfolding goodFraming
   no-row known fits = sym (row-none (fig .overhead) (fig .interrupt) (fig .framing) known fits)
 
-  pub row-passed : framingRow (fig .overhead) (fig .interrupt) (fig .framing) ≡ 0
+  pub good-row : framingRow (fig .overhead) (fig .interrupt) (fig .framing) ≡ 0
       → (goodFraming fig ≡ true) × (longestIn (fig .framing) + fig .overhead ≤ fig .interrupt)
   unfolding goodFraming
-  row-passed e = by-framing (which (eqb (fig .framing) 3 || eqb (fig .framing) 5))
-    where
-      low : (eqb (fig .framing) 3 || eqb (fig .framing) 5) ≡ true → Which (ltb (fig .interrupt) (longestIn (fig .framing) + fig .overhead))
-          → longestIn (fig .framing) + fig .overhead ≤ fig .interrupt
-      low known (no′ fits) = ltb-false (fig .interrupt) (longestIn (fig .framing) + fig .overhead) fits
-      low known (yes′ less) =
-          let short = ltb-true (fig .interrupt) (longestIn (fig .framing) + fig .overhead) less in
-          absurd (omega (arith, row-short (fig .overhead) (fig .interrupt) (fig .framing) known short ∙ e))
-
-      by-framing : Which (eqb (fig .framing) 3 || eqb (fig .framing) 5)
-          → ((eqb (fig .framing) 3 || eqb (fig .framing) 5) ≡ true) × (longestIn (fig .framing) + fig .overhead ≤ fig .interrupt)
-      by-framing (yes′ known) = (known, low known (which (ltb (fig .interrupt) (longestIn (fig .framing) + fig .overhead))))
-      by-framing (no′ other) = absurd (omega (arith, row-unknown (fig .overhead) (fig .interrupt) (fig .framing) other ∙ e))
+  good-row e = row-passed (fig .overhead) (fig .interrupt) (fig .framing) e
 
 -- a figure in its range is read from its drawing
 pub figure-drawn : (word : List ℕ) (n low high : ℕ) (c : Cursor) (more : ℕ → Read) → low ≤ n → n ≤ high → n < 10 ^ 16

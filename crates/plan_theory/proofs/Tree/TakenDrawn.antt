@@ -33,7 +33,7 @@ use Rattle.plan_theory.specs.Taken.{DrawnBy}
 use Rattle.plan_theory.proofs.Tree.Room.{room-limits}
 use Rattle.plan.proofs.Reading.Agree.{first, over, hub-agrees}
 use Rattle.plan_theory.proofs.Tree.Trees.{Drawing, kind-line, HubRead, TreeRead, hub-tree}
-use Rattle.plan_theory.proofs.Tree.Figures.{ranges-good, no-row, row-passed, one-number}
+use Rattle.plan_theory.proofs.Tree.Figures.{ranges-good, no-row, good-row, one-number}
 use Rattle.plan_theory.proofs.Tree.Optional.{Numbers, number, told, rowOf, readsOn, lineOf, form-of, optionalLine, row-meant, reads-meant}
 
 module _ (n m at line : ℕ) where
@@ -247,7 +247,7 @@ module _ (text : List ℕ) (n m at line : ℕ) where
   unfolding draw
   all-drawn T O D F h =
       let free = no-row (figures (T .value) (O .value) (D .value) 3) (unfold goodFraming in refl) (D .above) in
-      let p = row-passed (figuresOf (header T O D F)) (row-meant 3 (framingRow (O .value) (D .value)) free (F .value) .0 (F .passed)) in
+      let p = good-row (figuresOf (header T O D F)) (row-meant 3 (framingRow (O .value) (D .value)) free (F .value) .0 (F .passed)) in
       record {
         fig = header T O D F;
         tree = h .tree;

@@ -6,16 +6,12 @@ use lib.Dec.{eqb}
 use Rattle.rules.specs.Choice.{if_then_else_}
 use Rattle.rules.specs.Plan.{longestIn}
 
+bounds : (b : Bool) → (longestIn 3 ≤ (if b then longestIn 5 else longestIn 3)) × ((if b then longestIn 5 else longestIn 3) ≤ longestIn 5)
+bounds true = (omega arith, omega arith)
+bounds false = (omega arith, omega arith)
+
 pub longest-low : (framing : ℕ) → longestIn 3 ≤ longestIn framing
-longest-low framing = go (eqb framing 5)
-  where
-    go : (b : Bool) → longestIn 3 ≤ (if b then longestIn 5 else longestIn 3)
-    go true = omega arith
-    go false = omega arith
+longest-low framing = bounds (eqb framing 5) .0
 
 pub longest-up : (framing : ℕ) → longestIn framing ≤ longestIn 5
-longest-up framing = go (eqb framing 5)
-  where
-    go : (b : Bool) → (if b then longestIn 5 else longestIn 3) ≤ longestIn 5
-    go true = omega arith
-    go false = omega arith
+longest-up framing = bounds (eqb framing 5) .1

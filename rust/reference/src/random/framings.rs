@@ -3,14 +3,16 @@
 use super::texts::lines;
 use super::Random;
 
-/// What a framing line may be. Of the numbers that are forms, some would be 3 or
-/// 5 to a reader who keeps only 8, 16 or 32 bits of them.
-pub const FORMS: [&str; 28] = [
-    "(framing 3)",
-    "(framing 5)",
-    "(framing 4)",
+/// The two framing lines that there are.
+pub const TAKEN: [&str; 2] = ["(framing 3)", "(framing 5)"];
+
+/// Numbers that are forms and neither; some would be 3 or 5 to a reader who
+/// keeps only 8, 16 or 32 bits of them.
+pub const NEITHER: [&str; 12] = [
     "(framing 0)",
+    "(framing 1)",
     "(framing 2)",
+    "(framing 4)",
     "(framing 6)",
     "(framing 35)",
     "(framing 259)",
@@ -19,21 +21,32 @@ pub const FORMS: [&str; 28] = [
     "(framing 4294967301)",
     "(framing 3000000000000000)",
     "(framing 9999999999999999)",
-    "(framing 30000000000000000)",
-    "(framing 18446744073709551621)",
-    "(framing 0000000000000003)",
+];
+
+/// Lines that are no form of the framing's, nor of any other line.
+pub const NO_FORMS: [&str; 22] = [
+    "(framing)",
+    "(framing )",
     "(framing 03)",
     "(framing 05)",
     "(framing 00)",
-    "(framing)",
-    "(framing )",
+    "(framing 0000000000000003)",
+    "(framing 30000000000000000)",
+    "(framing 50000000000000000)",
+    "(framing 10000000000000004)",
+    "(framing 18446744073709551619)",
+    "(framing 18446744073709551621)",
     "(framing -3)",
+    "(framing +5)",
     "(framing 3 5)",
+    "(framing 3 )",
     "(framing  3)",
-    "(framing 3) ",
-    "(framing 5",
+    "(framing 3",
+    " (framing 3)",
+    "(framing 5) ",
     "(framings 3)",
     "(Framing 5)",
+    "(framing 5)\r",
 ];
 
 /// Puts a framing line into a text. Mostly it is the fourth line, in place of
@@ -41,7 +54,8 @@ pub const FORMS: [&str; 28] = [
 /// than late. Sometimes the text ends with it, and its LF is missing.
 pub fn damage(random: &mut Random, text: &mut Vec<u8>) {
     // Framing 5 more often, since most plans of 3 have a D too small for it.
-    let form = if random.chance(25) { "(framing 5)" } else { random.one_of(&FORMS) }.as_bytes();
+    let forms = [&TAKEN[..], &NEITHER, &NO_FORMS].concat();
+    let form = if random.chance(25) { "(framing 5)" } else { random.one_of(&forms) }.as_bytes();
     let ends = random.chance(8);
     lines(text, |lines| {
         let at = match random.below(10) {
