@@ -31,7 +31,7 @@ static void run(uint64_t t)
 
 int main(void)
 {
-    static const char text[] = "(frame 100000)\n(overhead 1000)\n(interrupt 13000)\n"
+    static const char text[] = "(frame 100000)\n(overhead 1000)\n(interrupt 13000)\n(strict)\n"
                                "(hub\n(node)\n(hub\n(node)\n(node)\n)\n(node)\n)\n";
     uint64_t told[4]; /* nodes, hubs, the place of the events and its line */
     uint32_t number = lembuya_read((const uint8_t *)text, sizeof text - 1, plan, told);

@@ -1,7 +1,7 @@
 //! Document 01's hall, call by call: prints its log. Run it in rust/ with `cargo run --example hall`.
 use lembuya::{Cascade, Plan, Refused};
 
-const PLAN: &[u8] = b"(frame 100000)\n(overhead 1000)\n(interrupt 13000)\n\
+const PLAN: &[u8] = b"(frame 100000)\n(overhead 1000)\n(interrupt 13000)\n(strict)\n\
                       (hub\n(node)\n(hub\n(node)\n(node)\n)\n(node)\n)\n";
 
 fn main() -> Result<(), Box<dyn std::error::Error>> {

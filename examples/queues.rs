@@ -4,7 +4,8 @@ use lembuya::{Cascade, Class, Plan, Refused, Step};
 use std::cmp::Reverse;
 use std::collections::{BinaryHeap, VecDeque};
 
-/// A packet's wait: its node, its class, when its request was first put up (it stood at the head of its node's queue), and its grant.
+/// A packet's wait: its node, the class it was asked for in, when its request was first put up (it stood at the head of its node's
+/// queue), and its grant.
 #[derive(Clone, Copy, Debug)]
 pub struct Wait {
     // Not every example looks at it.
@@ -94,12 +95,8 @@ impl Hall {
                 .map_or(end, |Reverse((time, _))| (*time).min(end));
             match self.hub.step(next)? {
                 Step::Grant {
-                    time,
-                    node,
-                    class,
-                    end,
-                    ..
-                } => self.granted(time, node, class, end),
+                    time, node, end, ..
+                } => self.granted(time, node, end),
                 Step::Rest { .. } => {}
                 Step::Quiet if next == end => break,
                 Step::Quiet => {
@@ -114,15 +111,17 @@ impl Hall {
         Ok(())
     }
 
-    fn granted(&mut self, time: u64, node: u64, class: Class, end: u64) {
+    /// The packet that was asked for, whatever the grant's class: a high request may have been taken as normal, or become so.
+    fn granted(&mut self, time: u64, node: u64, end: u64) {
         let at = &mut self.nodes[node as usize - 1];
+        let class = at.stands.take().expect("it was asked for");
         let (queue, head) = match class {
             Class::High => (&mut at.high, &mut at.high_head),
             Class::Normal => (&mut at.normal, &mut at.normal_head),
         };
         queue.pop_front();
         let head = head.take().expect("it was asked for");
-        (at.stands, at.sending) = (None, true);
+        at.sending = true;
         self.waits.push(Wait {
             node,
             class,

@@ -35,7 +35,8 @@ enum {
     LEMBUYA_NODE = 13,      /* k is 0 or above N */
     LEMBUYA_PACKETS = 14,   /* n is above 64 */
     LEMBUYA_LENGTH = 15,    /* b is not 512 to the plan's longest packet; in a reserve with n = 0: b is not 0 */
-    LEMBUYA_UNRESERVED = 16,/* high: n in force at t is 0, or b is above the b in force */
+    /* high: the plan is strict and n in force at t is 0; or n in force is at least 1 and b is above the b in force */
+    LEMBUYA_UNRESERVED = 16,
     LEMBUYA_FULL = 17,      /* reserve: the frame can't hold it */
     LEMBUYA_SHORT = 18      /* a lent buffer or table is too short: nothing is written there */
 };
@@ -59,18 +60,27 @@ enum {
 /* Reads the plan at the start of a text. Taken: 0, the plan's tables stand in `plan`, and `told` is nodes, hubs, the place where the
  * events start (byte) and its line number. Refused: its number, told[3] is the line, and the rest of `told` and `plan` are as they were.
  * Behind (interrupt D) the text may have one line more, (framing 3) or (framing 5), on which 1 comes before 4 and 4 before 2; without it 3
- * is meant. */
+ * is meant. Just before the root's (hub, so behind any framing's line, it may have the line (strict), which decides what becomes of a high
+ * request of a node with nothing reserved (lembuya_high); anywhere else, twice or with a number that line is 1. */
 uint32_t lembuya_read(const uint8_t *text, size_t length, uint32_t plan[LEMBUYA_PLAN_CELLS], uint64_t told[4]);
 
 /* The longest packet of the plan in bits: 36,000 where its text says (framing 5), else 12,000. It is answered for every content of the
  * table, and nothing is refused. */
 uint64_t lembuya_longest(const uint32_t plan[LEMBUYA_PLAN_CELLS]);
 
+/* 1 where the plan's text says (strict), else 0: whether lembuya_high refuses a node with nothing reserved by 16. It is answered for every
+ * content of the table, in which any number but 0 in the line's cell is strict, and nothing is refused. */
+uint32_t lembuya_strict(const uint32_t plan[LEMBUYA_PLAN_CELLS]);
+
 /* The cascade's table before any event. It serves any plan. */
 void lembuya_fresh(uint32_t cascade[LEMBUYA_CASCADE_CELLS]);
 
 /* The five events: 0, or the number of the first row that applies, and then no cell changes. */
 uint32_t lembuya_normal(const uint32_t plan[LEMBUYA_PLAN_CELLS], uint32_t cascade[LEMBUYA_CASCADE_CELLS], uint64_t t, uint64_t k, uint64_t b);
+/* In a plan that isn't strict, which is the default, a high request of a node with nothing reserved in force at t (n = 0) is taken as a
+ * normal one: 0, it stands as lembuya_normal's would, in place of any earlier one of its node, and is granted in class 1. It stays normal
+ * if a reservation comes into force while it stands. In a strict plan it is 16. Of a node with n at least 1 it is high, or 16 where b is
+ * above the b in force, in every plan. */
 uint32_t lembuya_high(const uint32_t plan[LEMBUYA_PLAN_CELLS], uint32_t cascade[LEMBUYA_CASCADE_CELLS], uint64_t t, uint64_t k, uint64_t b);
 uint32_t lembuya_off(const uint32_t plan[LEMBUYA_PLAN_CELLS], uint32_t cascade[LEMBUYA_CASCADE_CELLS], uint64_t t, uint64_t k);
 uint32_t lembuya_reserve(const uint32_t plan[LEMBUYA_PLAN_CELLS], uint32_t cascade[LEMBUYA_CASCADE_CELLS], uint64_t t, uint64_t k, uint64_t n, uint64_t b);

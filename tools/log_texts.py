@@ -16,11 +16,11 @@ import sys
 from model.figures import MOST_TEXT_BYTES
 from model.log import log
 from texts import (
-    control, depths, forms, framing, held, largest, moves, order, plans, random_texts, ranges, requests, reservations, rows, suite, trials,
-    vectors)
+    control, depths, forms, framing, held, largest, moves, order, plans, random_texts, ranges, requests, reservations, rows, strict, suite,
+    trials, vectors)
 
 SUBJECTS = (
-    plans, vectors, trials, forms, rows, reservations, order, held, ranges, requests, control, moves, depths, framing, largest,
+    plans, vectors, trials, forms, rows, reservations, order, held, ranges, requests, control, moves, depths, framing, strict, largest,
     random_texts)
 CASES = [case for subject in SUBJECTS for case in subject.cases]
 ORIGINS = ('plan', 'vector', 'worked', 'reference')

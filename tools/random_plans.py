@@ -4,8 +4,9 @@
     python3 tools/random_plans.py [SEED [BATCHES]]        default 1 20; the program must have been built
 
 The texts are plans at and past every limit, many of them damaged: bytes changed, cut out or put in, lines cut and swapped. Some have a
-framing line, in its place or elsewhere, or what is none; the events behind have lengths at the ends of both framings. A batch is some
-480,000 bytes of texts, separated by byte 0. It is no part of the gate.
+framing line or the line `(strict)`, in its place or elsewhere, or what is none; the events behind have lengths at the ends of both
+framings, and high requests with and without a share. A batch is some 480,000 bytes of texts, separated by byte 0. It is no part of the
+gate.
 """
 import collections
 import random
@@ -22,6 +23,9 @@ OTHER_FRAMINGS = [
     b'(framing 4)', b'(framing 0)', b'(framing 35)', b'(framing 261)', b'(framing 4294967301)', b'(framing 9999999999999999)',
     b'(framing 10000000000000005)', b'(framing 18446744073709551621)', b'(framing)', b'(framing )', b'(framing 03)', b'(framing 05)',
     b'(framing 04)', b'(framing 3 5)', b'(framing  5)', b'(framing5)', b'(framing 5', b'(frame 5)', b'(strict)']
+OTHER_STRICTS = [
+    b'(strict )', b'( strict)', b'(Strict)', b'(strict', b'strict)', b'(strict))', b'(strict) ', b'(stric)', b'(stricts)', b'(strict 0)',
+    b'(strict 1)', b'(strict 5)', b'(strict 9999999999999999)', b'(strict 10000000000000000)', b'(framing 3)']
 LENGTHS = [SHORTEST_PACKET - 1, SHORTEST_PACKET, *(b for longest in LONGEST_PACKETS.values() for b in (longest, longest, longest + 1))]
 BATCH_BYTES = 480000
 MOST_INPUT_BYTES = 524288
@@ -56,20 +60,25 @@ def put_framing(rng, lines):
     lines.insert(at, rng.choice(FRAMINGS if rng.random() < .75 else OTHER_FRAMINGS))
 
 
+def put_strict(rng, lines):
+    """`(strict)` or what is none, mostly just before the root's line; elsewhere it stands near there, behind it too."""
+    at = lines.index(b'(hub') if rng.random() < .9 else rng.randint(0, min(7, len(lines)))
+    lines.insert(at, b'(strict)' if rng.random() < .8 else rng.choice(OTHER_STRICTS))
+
+
 def random_events(rng):
-    """Requests and reservations of node 1, of which the plan's framing takes some."""
+    """Requests of nodes 1 and 2 and reservations of node 1: the plan's framing takes some, and before one is in force n is 0."""
     late = FRAME_RANGE[1]  # in no plan's frame 0
-    events = [b'(until 5)', b'(normal 5 1 %d)', b'(reserve 6 1 1 %d)', b'(reserve 7 1 2 %d)', b'(high %d 1 %%d)' % late,
-              b'(until %d)' % (2 * late)]
+    events = [b'(until 5)', b'(normal 5 1 %d)', b'(high 5 1 %d)', b'(reserve 6 1 1 %d)', b'(reserve 7 1 2 %d)', b'(high %d 1 %%d)' % late,
+              b'(high %d 2 %%d)' % late, b'(reserve %d 1 0 0)' % late, b'(high %d 1 %%d)' % (2 * late), b'(until %d)' % (2 * late + 1)]
     chosen = [event for event in events if rng.random() < .6]
     return [event % rng.choice(LENGTHS) if b'%d' in event else event for event in chosen]
 
 
 def cut(rng, text):
-    """Its last LF, that of its framing line with all behind it, or anything."""
+    """Its last LF, that of a framing line or of `(strict)` with all behind it, or anything."""
     places = [len(text) - 1, rng.randint(0, len(text))]
-    if b'(framing' in text:
-        places.append(text.index(b'\n', text.index(b'(framing')))
+    places += [text.index(b'\n', text.index(word)) for word in (b'(framing', b'(strict)') if word in text]
     return text[:rng.choice(places)]
 
 
@@ -90,6 +99,8 @@ def random_text(rng):
     lines = random_figures(rng) + random_hub(rng, 1) + (random_events(rng) if rng.random() < .6 else [])
     for _ in range(rng.choice([0, 0, 1, 1, 1, 2] if rng.random() < .5 else [0, 1])):
         put_framing(rng, lines)
+    for _ in range(rng.choice([0, 0, 0, 1, 1, 1, 1, 2])):
+        put_strict(rng, lines)
     if rng.random() < .1:
         a, b = rng.randrange(len(lines)), rng.randrange(len(lines))
         lines[a], lines[b] = lines[b], lines[a]
@@ -118,12 +129,12 @@ def logs_of(texts):
 
 
 def kind_of(text, log):
-    """Of a refused plan its row; of a taken one its fourth line, which is the framing's or already the root's."""
+    """Of a refused plan its row; of a taken one the lines between its figures and its root."""
     first = log.split(b'\n')[0]
     if not first.startswith(b'(nodes'):
         return f'refused by {first[-2:-1].decode()}'
-    fourth = text.split(b'\n')[3].decode()
-    return 'taken without a framing line' if fourth == '(hub' else f'taken with {fourth}'
+    lines = text.decode(errors='replace').split('\n')
+    return ' '.join(['taken with', *(lines[3:lines.index('(hub')] or ['neither'])])
 
 
 def main():

@@ -3,12 +3,13 @@
 
     python3 tools/random_runs.py [SEED [RUNS [CALLS]]]        default 1 100 80
 
-Each run is a random plan of either framing and a random list of calls, refused ones among them. Its answers by the model are written as a
-theorem about the definitions (`answers p (control p) calls` is this list), which the checker computes; and so are those by the rule 2 that
-document 01 had before (`fromRoot`), and the returns of the root's pointer in each call (`callReturns`). Request 13's bound is held against
-the model's own moves and returns. For some high requests of each list request 5's premises, the grant and the limit are looked up in the
-list by the model, and by the definitions there (`figures` of `AnyMomentRuns`); where all premises hold, the grant is held against the
-limit. It works in a temporary folder; it is no part of the gate.
+Each run is a random plan of either framing, strict or not, and a random list of calls, refused ones among them and high requests of nodes
+that have reserved nothing. Its answers by the model are written as a theorem about the definitions (`answers p (control p) calls` is this
+list), which the checker computes; and so are those by the rule 2 that document 01 had before (`fromRoot`), and the returns of the root's
+pointer in each call (`callReturns`). Request 13's bound is held against the model's own moves and returns. For some high requests of each
+list, up to two taken as normal among them, request 5's premises, the grant and the limit are looked up in the list by the model, and by the
+definitions there (`figures` of `AnyMomentRuns`); where all premises hold, the grant is held against the limit. It works in a temporary
+folder; it is no part of the gate.
 """
 import collections
 import pathlib
@@ -24,7 +25,7 @@ from model.figures import LATEST_TIME, LONGEST_PACKETS, MOST_LEVELS, MOST_PACKET
 from model.hub import Hub, run
 from model.plan import plan_of
 from model.travel import farthest
-from model.words import accepted
+from model.words import accepted, puts_up_high
 from theorems import HEAD, list_theorem, wait_theorem
 
 ROOT = pathlib.Path(__file__).resolve().parent.parent
@@ -46,15 +47,17 @@ def random_hub(rng, level):
 
 
 def random_plan(rng):
-    """At most 12 nodes and 10 hubs, so that the checker computes its lists in a short time. Framing 3 is meant or written out."""
+    """At most 12 nodes and 10 hubs, so that the checker computes its lists in a short time. Framing 3 is meant or written out; half are
+    strict."""
     while True:
         tree = random_hub(rng, 1)
         frame, overhead = rng.choice([100000, 100000, 120000]), rng.choice([0, 1000, 7000])
         framing = rng.choice([*LONGEST_PACKETS])
-        line = [f'(framing {framing})'] if framing == 5 or rng.random() < .5 else []
+        header = [f'(framing {framing})'] if framing == 5 or rng.random() < .5 else []
+        header += ['(strict)'] if rng.random() < .5 else []
         interrupt = LONGEST_PACKETS[framing] + overhead + rng.choice([0, 1000, 20000])
         if 1 <= tree.count('(node)') <= 12 and tree.count('(hub') <= 10:
-            return plan_of([f'(frame {frame})', f'(overhead {overhead})', f'(interrupt {interrupt})', *line, *tree])
+            return plan_of([f'(frame {frame})', f'(overhead {overhead})', f'(interrupt {interrupt})', *header, *tree])
 
 
 # Random calls
@@ -132,13 +135,16 @@ def random_run(rng, plan, count):
 
 
 def waits(rng, plan, entries):
-    """Some of the list's high requests, one that is replaced among them, also as they are if it ends before; few frames, since each is
-    looked at."""
+    """Some of the list's high requests, one that is replaced and up to two taken as normal among them, also as they are if it ends before;
+    few frames, since each is looked at."""
     found = []
     for end in (len(entries), rng.randint(1, len(entries))):
         cut = entries[:end]
-        asked = [Wait(plan, cut, i) for i, entry in enumerate(cut) if accepted(entry, 'high')]
+        places = [i for i, entry in enumerate(cut) if accepted(entry, 'high')]
+        asked = [Wait(plan, cut, i) for i in places if puts_up_high(plan, cut, i)]
+        as_normal = [Wait(plan, cut, i) for i in places if not puts_up_high(plan, cut, i)]
         found += rng.sample(asked, min(3, len(asked)))
+        found += rng.sample(as_normal, min(2, len(as_normal)))
         found += [wait for wait in asked if wait.holds() and wait.is_replaced()][:1]
     return [wait for wait in found if wait.last_frame - wait.first_frame < 20]
 
@@ -155,7 +161,7 @@ def kind_of(answer):
 class Tally:
     def __init__(self):
         self.answers, self.waits = collections.Counter(), collections.Counter()
-        self.most_moves = self.other_moves = self.returns = self.farthest = 0
+        self.most_moves = self.other_moves = self.returns = self.farthest = self.taken_as_normal = 0
 
     def add_list(self, plan, entries, by_root):
         for answer in (entry.answer for entry in entries):
@@ -164,6 +170,7 @@ class Tally:
         self.other_moves += sum(entry.answer != old.answer for entry, old in zip(entries, by_root))
         self.returns += sum(entry.returns for entry in entries)
         self.farthest += farthest(plan, entries)
+        self.taken_as_normal += sum(accepted(entry, 'high') and not puts_up_high(plan, entries, i) for i, entry in enumerate(entries))
 
     def add_wait(self, wait):
         self.waits['looked at'] += 1
@@ -175,7 +182,8 @@ class Tally:
 
     def __str__(self):
         return (f'at most {self.most_moves} moves, {self.other_moves} steps with other moves than by the root, {self.returns} returns, '
-                f'request 13 met {self.farthest} times; request 5: {dict(self.waits.most_common())} {dict(self.answers.most_common())}')
+                f'request 13 met {self.farthest} times, {self.taken_as_normal} high requests taken as normal; '
+                f'request 5: {dict(self.waits.most_common())} {dict(self.answers.most_common())}')
 
 
 def theorems_of_run(rng, i, count, tally):

@@ -33,7 +33,8 @@ static uint32_t plan_of(const char *text)
 }
 
 #define FIGURES "(frame 100000)\n(overhead 1000)\n(interrupt 13000)\n"
-#define PLAN FIGURES "(hub\n(node)\n)\n"
+#define TREE "(hub\n(node)\n)\n"
+#define PLAN FIGURES "(strict)\n" TREE
 
 static void plans(void)
 {
@@ -44,8 +45,12 @@ static void plans(void)
     IS(LEMBUYA_FORM, plan_of(FIGURES "(framing 03)\n"));
     IS(LEMBUYA_FRAMING, plan_of(FIGURES "(framing 4)\n"));
     IS(LEMBUYA_FIGURE, plan_of(FIGURES "(framing 5)\n"));
+    IS(LEMBUYA_FORM, plan_of(FIGURES "(strict 1)\n" TREE));
     expected.told[3] = 5;
     IS(LEMBUYA_LIMIT, plan_of(FIGURES "(hub\n)\n"));
+    IS(LEMBUYA_FORM, plan_of(FIGURES "(strict)\n(strict)\n" TREE));
+    IS(LEMBUYA_FORM, plan_of(FIGURES "(strict)\n(framing 3)\n" TREE));
+    IS(LEMBUYA_FORM, plan_of(FIGURES "(framing 3)\n(strict 1)\n" TREE));
     expected.told[3] = 6;
     IS(LEMBUYA_LIMIT, plan_of(FIGURES "(framing 3)\n(hub\n)\n"));
 }
@@ -60,6 +65,21 @@ static void longest(void)
     IS(12000, lembuya_longest(table));
     IS(LEMBUYA_OK, lembuya_read((const uint8_t *)ring, sizeof ring - 1, table, told));
     IS(36000, lembuya_longest(table));
+}
+
+/* It refuses no table either. Without the line a high request of a node with nothing reserved is taken, and granted in class 1. */
+static void strict(void)
+{
+    static uint32_t table[LEMBUYA_PLAN_CELLS], hub[LEMBUYA_CASCADE_CELLS];
+    uint64_t told[4], answer[6];
+    IS(1, lembuya_strict(lent.plan));
+    IS(0, lembuya_strict(table));
+    IS(LEMBUYA_OK, lembuya_read((const uint8_t *)FIGURES TREE, sizeof FIGURES TREE - 1, table, told));
+    IS(0, lembuya_strict(table));
+    lembuya_fresh(hub);
+    IS(LEMBUYA_OK, lembuya_high(table, hub, 0, 1, 12000));
+    IS(LEMBUYA_GRANT, lembuya_step(table, hub, 1, answer));
+    IS(LEMBUYA_NORMAL, answer[3]);
 }
 
 /* From clock 10, where node 1's request is due. */
@@ -106,6 +126,7 @@ int main(void)
     memcpy(&expected, &lent, sizeof lent);
     plans();
     longest();
+    strict();
     events();
     steps();
     lists_and_runs();

@@ -53,6 +53,10 @@ def as_answers(entries):
     return as_list(as_answer(entry.answer) for entry in entries)
 
 
+def truth(x):
+    return 'true' if x else 'false'
+
+
 def as_plan(plan):
     hubs = range(1, plan.hubs + 1)
 
@@ -71,6 +75,7 @@ def as_plan(plan):
     ports = as_list(['[]', *(as_list(['empty', *(port(*each) for each in plan.ports[hub])]) for hub in hubs)])
     return f'''record {{
       frame = {plan.frame}; overhead = {plan.overhead}; interrupt = {plan.interrupt}; framing = {plan.framing};
+      strict = {truth(plan.strict)};
       nodes = {plan.nodes}; hubs = {plan.hubs};
       ports = λ g. getD {table(lambda hub: len(plan.ports[hub]))} g 0;
       port = λ g q. getD (getD {ports} g []) q empty;
@@ -111,8 +116,6 @@ rootRight{i} = refl
 
 def wait_theorem(name, i, wait):
     """Request 5's words of a high request. `figures` computes the answers too, which stand in the list's own theorem already."""
-    def truth(x):
-        return 'true' if x else 'false'
     grant = 'none' if wait.grant is None else f'granted {class_name(wait.grant.class_)} {wait.grant.time}'
     expected = (f'record {{ told = []; left = {truth(wait.left)}; stands = {truth(wait.stands)}; unchanged = {truth(wait.unchanged)};'
                 f' run = {truth(wait.ran)}; grant = {grant}; limit = {wait.limit}; }}')

@@ -27,7 +27,7 @@ pub enum Call {
         /// b, the packet's length.
         bits: u64,
     },
-    /// `(high t k b)`: [`Cascade::high`](crate::Cascade::high).
+    /// `(high t k b)`: [`Cascade::high`](crate::Cascade::high), which may take it as normal.
     High {
         /// t, the time.
         time: u64,
@@ -188,7 +188,8 @@ pub enum Step {
         time: u64,
         /// k, the node.
         node: u64,
-        /// The class of its request.
+        /// The class of its request as it stood. A high event may have been taken as normal, and a high request may have become
+        /// normal at a frame's start.
         class: Class,
         /// The time at which the line is free again: s, the packet's bits and its overhead.
         end: u64,
@@ -227,7 +228,7 @@ impl fmt::Display for Step {
 /// ```
 /// use lembuya::{Answer, Call, Plan, Refused};
 ///
-/// let plan = Plan::read(b"(frame 100000)\n(overhead 1000)\n(interrupt 13000)\n(hub\n(node)\n)\n")?;
+/// let plan = Plan::read(b"(frame 100000)\n(overhead 1000)\n(interrupt 13000)\n(strict)\n(hub\n(node)\n)\n")?;
 /// let answers = plan.cascade().calls(&[
 ///     Call::Normal { time: 0, node: 1, bits: 12_000 },
 ///     Call::High { time: 0, node: 1, bits: 12_000 },

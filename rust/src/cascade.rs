@@ -59,6 +59,40 @@ impl Cascade {
     /// `(high t k b)`: a high request of `node` stands from `t` on, for a packet of `bits`, in place
     /// of any earlier one of its own.
     ///
+    /// Where `node` has nothing reserved in force at `t`, it is a [normal](Cascade::normal) request that stands, and its grant
+    /// is of class 1; it stays normal if a reservation comes into force meanwhile. A [strict](Plan::is_strict) plan refuses it
+    /// instead. Of a node with a reservation, a packet longer than that is refused in both.
+    ///
+    /// # Examples
+    ///
+    /// A camera, node 1, with one packet of 4,000 bits a frame, and a laptop, node 2, that calls everything high:
+    ///
+    /// ```
+    /// use lembuya::{Plan, Refused};
+    ///
+    /// let hall = |line: &str| {
+    ///     let figures = "(frame 100000)\n(overhead 1000)\n(interrupt 13000)\n";
+    ///     let plan = Plan::read(format!("{figures}{line}(hub\n(node)\n(node)\n)\n").as_bytes())?;
+    ///     let mut hub = plan.cascade();
+    ///     hub.reserve(0, 1, 1, 4_000)?;
+    ///     let laptop = hub.high(100_000, 2, 12_000);
+    ///     hub.high(100_000, 1, 4_000)?;
+    ///     assert_eq!(hub.high(100_000, 1, 4_001), Err(Refused::Unreserved)); // longer than what is reserved
+    ///     let turns: Result<Vec<_>, _> = hub.steps_before(200_000).collect();
+    ///     let turns: Vec<_> = turns?.iter().map(|turn| turn.to_string()).collect();
+    ///     Ok::<_, Box<dyn std::error::Error>>((laptop, turns))
+    /// };
+    /// // Taken as normal: it comes behind the camera, in class 1.
+    /// let (laptop, turns) = hall("")?;
+    /// assert_eq!(laptop, Ok(()));
+    /// assert_eq!(turns, ["(grant 100000 1 2 105000 0)", "(grant 105000 2 1 118000 0)", "(rest 118000 0)"]);
+    /// // With the line it has no turn.
+    /// let (laptop, turns) = hall("(strict)\n")?;
+    /// assert_eq!(laptop, Err(Refused::Unreserved));
+    /// assert_eq!(turns, ["(grant 100000 1 2 105000 0)", "(rest 105000 0)"]);
+    /// # Ok::<(), Box<dyn std::error::Error>>(())
+    /// ```
+    ///
     /// # Errors
     ///
     /// Rows 11, 12, 13, 15 and 16.

@@ -14,6 +14,8 @@ pub mod plan {
     pub const INTERRUPT: usize = 2;
     /// The framing, by its number.
     pub const FRAMING: usize = 5;
+    /// 1 where the plan is strict, else 0.
+    pub const STRICT: usize = 6;
 
     /// Where the hubs' cells start, and how many each has.
     pub const HUBS: usize = 8;

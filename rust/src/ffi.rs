@@ -22,11 +22,14 @@ extern "C" {
     pub fn lembuya_read(text: *const u8, length: usize, plan: *mut Plan, told: *mut [u64; 4]) -> u32;
     /// The longest packet of a plan, in bits: 36,000 where its text says `(framing 5)`, else 12,000.
     pub fn lembuya_longest(plan: *const Plan) -> u64;
+    /// 1 where a plan's text says `(strict)`, else 0. In a table of any content every number but 0 in the line's cell is strict.
+    pub fn lembuya_strict(plan: *const Plan) -> u32;
     /// Makes the cascade's table as it is before any event. It serves any plan.
     pub fn lembuya_fresh(cascade: *mut Cascade);
     /// `(normal t k b)`. Refused: the number, and no cell changes.
     pub fn lembuya_normal(plan: *const Plan, cascade: *mut Cascade, t: u64, k: u64, b: u64) -> u32;
-    /// `(high t k b)`. Refused: the number, and no cell changes.
+    /// `(high t k b)`. Refused: the number, and no cell changes. Where nothing is reserved in force at t it is 16 in a strict
+    /// plan; in any other it is taken as `lembuya_normal`.
     pub fn lembuya_high(plan: *const Plan, cascade: *mut Cascade, t: u64, k: u64, b: u64) -> u32;
     /// `(off t k)`. Refused: the number, and no cell changes.
     pub fn lembuya_off(plan: *const Plan, cascade: *mut Cascade, t: u64, k: u64) -> u32;

@@ -11,7 +11,7 @@
 //! requests for changes to it.
 //!
 //! - [`Plan`]: a tree of hubs and its figures, read from a text. [`Hub`], [`Port`] and [`Place`] tell its tree,
-//!   [`Framing`] which packets its line carries.
+//!   [`Framing`] which packets its line carries, and [`Plan::is_strict`] what becomes of high requests without a reservation.
 //! - [`Cascade`]: a plan's hub at work. It takes five events and the step.
 //! - [`Step`], [`Refused`]: what it answers. Their `Display` is the log's form and the documents' words.
 //! - [`Call`], [`Answer`]: the same as values, for a list of calls. A `Call` is read from an event line, and shown as one.
@@ -28,7 +28,7 @@
 //! use lembuya::{Plan, Refused};
 //!
 //! let plan = Plan::read(
-//!     b"(frame 100000)\n(overhead 1000)\n(interrupt 13000)\n\
+//!     b"(frame 100000)\n(overhead 1000)\n(interrupt 13000)\n(strict)\n\
 //!       (hub\n(node)\n(hub\n(node)\n(node)\n)\n(node)\n)\n",
 //! )?;
 //! assert_eq!(plan.to_string(), "(nodes 4 hubs 2)");
@@ -37,7 +37,7 @@
 //! hub.reserve(0, 3, 2, 4_000)?; // two packets of 4,000 bits a frame, from the next frame on
 //! hub.normal(0, 1, 12_000)?;
 //! hub.normal(0, 4, 6_000)?;
-//! assert_eq!(hub.high(0, 3, 4_000), Err(Refused::Unreserved)); // nothing is reserved in frame 0
+//! assert_eq!(hub.high(0, 3, 4_000), Err(Refused::Unreserved)); // nothing is reserved in frame 0, and the plan is strict
 //!
 //! // Time passes: the turns that come before 99,000.
 //! let turns: Result<Vec<_>, _> = hub.steps_before(99_000).collect();
@@ -63,11 +63,11 @@
 //! The same as one text, with its log:
 //!
 //! ```
-//! let text = b"(frame 100000)\n(overhead 1000)\n(interrupt 13000)\n\
+//! let text = b"(frame 100000)\n(overhead 1000)\n(interrupt 13000)\n(strict)\n\
 //!     (hub\n(node)\n(hub\n(node)\n(node)\n)\n(node)\n)\n\
 //!     (reserve 0 3 2 4000)\n(normal 0 1 12000)\n(normal 0 4 6000)\n(high 0 3 4000)\n\
 //!     (normal 99000 2 12000)\n(high 100000 3 4000)\n(normal 100000 1 1000)\n(until 200000)\n";
-//! let log = "(nodes 4 hubs 2)\n(refused 15 16)\n(grant 0 1 1 13000 0)\n\
+//! let log = "(nodes 4 hubs 2)\n(refused 16 16)\n(grant 0 1 1 13000 0)\n\
 //!     (grant 13000 4 1 20000 0)\n(rest 20000 0)\n(grant 99000 2 1 112000 1)\n\
 //!     (grant 112000 3 2 117000 2)\n(grant 117000 1 1 119000 1)\n(rest 119000 0)\n";
 //! assert_eq!(lembuya::log(text), log.as_bytes());
@@ -97,15 +97,15 @@ pub use plan::{Events, Plan};
 pub use refused::{PlanRefused, PlanRow, Refused, RefusedLine, Short};
 pub use tree::{Hub, Place, Port};
 
-/// Document 01's plan and events, for tests.
+/// Document 01's plan, with the line that request 8 asks of it, and its events, for tests.
 #[cfg(test)]
 mod example {
-    pub const PLAN: &str = "(frame 100000)\n(overhead 1000)\n(interrupt 13000)\n\
+    pub const PLAN: &str = "(frame 100000)\n(overhead 1000)\n(interrupt 13000)\n(strict)\n\
         (hub\n(node)\n(hub\n(node)\n(node)\n)\n(node)\n)\n";
     pub const EVENTS: &str = "(reserve 0 3 2 4000)\n(normal 0 1 12000)\n(normal 0 4 6000)\n\
         (high 0 3 4000)\n(normal 99000 2 12000)\n(high 100000 3 4000)\n\
         (normal 100000 1 1000)\n(until 200000)\n";
-    pub const LOG: &str = "(nodes 4 hubs 2)\n(refused 15 16)\n(grant 0 1 1 13000 0)\n\
+    pub const LOG: &str = "(nodes 4 hubs 2)\n(refused 16 16)\n(grant 0 1 1 13000 0)\n\
         (grant 13000 4 1 20000 0)\n(rest 20000 0)\n(grant 99000 2 1 112000 1)\n\
         (grant 112000 3 2 117000 2)\n(grant 117000 1 1 119000 1)\n(rest 119000 0)\n";
 }

@@ -70,7 +70,7 @@ mod tests {
     #[test]
     fn a_bad_plan_gives_only_the_refused_line() {
         assert_eq!(log(b""), b"(refused 1 1)\n");
-        assert_eq!(log(format!("{PLAN}{EVENTS}").replace("(hub", "(hug").as_bytes()), b"(refused 4 1)\n");
+        assert_eq!(log(format!("{PLAN}{EVENTS}").replace("(hub", "(hug").as_bytes()), b"(refused 5 1)\n");
     }
 
     #[test]
@@ -91,6 +91,6 @@ mod tests {
         let log = log(text.as_bytes());
         let lines = LONGEST_TEXT - PLAN.len();
         assert_eq!(log.iter().filter(|byte| **byte == b'\n').count(), 1 + lines);
-        assert!(log.ends_with(format!("(refused {} 1)\n", 11 + lines).as_bytes()));
+        assert!(log.ends_with(format!("(refused {} 1)\n", 12 + lines).as_bytes()));
     }
 }

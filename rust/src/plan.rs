@@ -5,7 +5,7 @@ use crate::{ffi, safe, Cascade, Framing, PlanRefused};
 use std::fmt;
 use std::sync::Arc;
 
-/// A plan that was taken: three figures, a framing and a tree of hubs.
+/// A plan that was taken: three figures, a framing, whether it is strict, and a tree of hubs.
 ///
 /// It can only be made by [reading](Plan::read) a text, so every one there is keeps the limits of
 /// documents 01 and 02. A clone shares the tables. `Display` is the log's first line, `(nodes N hubs H)`.
@@ -189,6 +189,28 @@ impl Plan {
         safe::longest(self.cells())
     }
 
+    /// Whether its text has the line `(strict)`, just before the root's `(hub` and behind any framing's line.
+    ///
+    /// It decides what becomes of a high request of a node with nothing reserved in force: row 16 refuses it in a strict plan;
+    /// in any other, which is the default, it is [taken as a normal one](Cascade::high). A reserved node has the same share and
+    /// the same delay limit either way (proved).
+    ///
+    /// ```
+    /// use lembuya::{Plan, Refused};
+    ///
+    /// let plan = Plan::read(b"(frame 100000)\n(overhead 1000)\n(interrupt 13000)\n(hub\n(node)\n)\n")?;
+    /// assert!(!plan.is_strict());
+    /// assert_eq!(plan.cascade().high(0, 1, 512), Ok(())); // nothing is reserved: taken as normal
+    ///
+    /// let strict = Plan::read(b"(frame 100000)\n(overhead 1000)\n(interrupt 13000)\n(strict)\n(hub\n(node)\n)\n")?;
+    /// assert!(strict.is_strict());
+    /// assert_eq!(strict.cascade().high(0, 1, 512), Err(Refused::Unreserved));
+    /// # Ok::<(), lembuya::PlanRefused>(())
+    /// ```
+    pub fn is_strict(&self) -> bool {
+        safe::strict(self.cells()) == 1
+    }
+
     /// N, the number of nodes, 1 to 256. They are numbered from 1 in line order.
     pub fn nodes(&self) -> u64 {
         self.read.nodes
@@ -245,11 +267,11 @@ mod tests {
         let text = format!("{PLAN}{EVENTS}");
         let plan = Plan::read(text.as_bytes()).unwrap();
         assert_eq!((plan.nodes(), plan.hubs()), (4, 2));
-        assert_eq!(plan.events(), Events { at: PLAN.len(), line: 12 });
+        assert_eq!(plan.events(), Events { at: PLAN.len(), line: 13 });
         assert_eq!(plan.to_string(), "(nodes 4 hubs 2)");
         assert_eq!(
             format!("{plan:?}"),
-            "Plan { nodes: 4, hubs: 2, events: Events { at: 91, line: 12 }, .. }"
+            "Plan { nodes: 4, hubs: 2, events: Events { at: 100, line: 13 }, .. }"
         );
     }
 
@@ -259,7 +281,23 @@ mod tests {
         let said = PLAN.replace("13000)\n", "13000)\n(framing 3)\n");
         let [said, meant] = [&said, PLAN].map(|text| Plan::read(text.as_bytes()).unwrap());
         assert_eq!(said.cells(), meant.cells());
-        assert_eq!(said.events(), Events { at: PLAN.len() + 12, line: 13 });
+        assert_eq!(said.events(), Events { at: PLAN.len() + 12, line: 14 });
+    }
+
+    /// It moves the events by its own line, and changes nothing of the tables but its cell.
+    #[test]
+    fn the_strict_line_is_one_cell() {
+        for framing in ["", "(framing 3)\n", "(framing 5)\n"] {
+            let strict = PLAN.replace("13000)\n", &format!("37000)\n{framing}"));
+            let [strict, default] = [strict.clone(), strict.replace("(strict)\n", "")]
+                .map(|text| Plan::read(text.as_bytes()).unwrap());
+            assert!(strict.is_strict() && !default.is_strict());
+            let cells = (0..).zip(strict.cells().iter().zip(default.cells()));
+            let differing: Vec<_> = cells.filter(|(_, (one, other))| one != other).collect();
+            assert_eq!(differing, [(cells::STRICT, (&1, &0))]);
+            let Events { at, line } = default.events();
+            assert_eq!(strict.events(), Events { at: at + "(strict)\n".len(), line: line + 1 });
+        }
     }
 
     #[test]

@@ -35,7 +35,9 @@ pub enum Refused {
     /// Row 15, normal, high and reserve: b outside 512 to the plan's
     /// [longest packet](crate::Plan::longest_packet); in a reserve with n = 0 instead: b not 0.
     Length = 15,
-    /// Row 16, high: n in force at t is 0, or b above the b in force.
+    /// Row 16, high: n in force at t is 0 and the plan is [strict](crate::Plan::is_strict), or it isn't 0 and b above the b in
+    /// force. With n = 0 in any other plan the request is [taken as normal](crate::Cascade::high), so that there only a node
+    /// with a reservation gets this row.
     Unreserved = 16,
     /// Row 17, reserve: the frame can't hold it.
     Full = 17,
@@ -99,7 +101,9 @@ impl fmt::Display for Refused {
             Refused::Length => {
                 "b outside 512 to the plan's longest packet; in a reserve with n = 0 instead: b not 0"
             }
-            Refused::Unreserved => "n in force at t is 0, or b above the b in force",
+            Refused::Unreserved => {
+                "n in force at t is 0 and the plan is strict, or it isn't 0 and b above the b in force"
+            }
             Refused::Full => "the frame can't hold it",
         })
     }
@@ -372,6 +376,27 @@ mod tests {
         assert_eq!(refused(37_000, "(framing 5)\n(framing 5)\n"), Some((5, 1)));
     }
 
+    /// Request 8 of document 02: the line stands just before the root's, behind any framing's, or it is 1.
+    #[test]
+    fn the_strict_line_has_one_place() {
+        let refused = |text: &str| Plan::read(text.as_bytes()).map_err(|no| (no.line, no.number())).err();
+        let figures = "(frame 100000)\n(overhead 1000)\n(interrupt 37000)\n";
+        let tree = "(hub\n(node)\n)\n";
+        let header = |lines: &str| refused(&format!("{figures}{lines}{tree}"));
+        for framing in ["", "(framing 3)\n", "(framing 5)\n"] {
+            let line = 4 + framing.lines().count() as u64;
+            assert_eq!(header(&format!("{framing}(strict)\n")), None);
+            assert_eq!(header(&format!("{framing}(strict)\n(strict)\n")), Some((line + 1, 1)));
+            for form in ["(strict 1)\n", "(strict 0)\n", "(strict )\n", "(Strict)\n", "(strict\n"] {
+                assert_eq!(header(&format!("{framing}{form}")), Some((line, 1)), "{form}");
+            }
+        }
+        assert_eq!(header("(strict)\n(framing 5)\n"), Some((5, 1)));
+        assert_eq!(refused(&format!("(strict)\n{figures}{tree}")), Some((1, 1)));
+        assert_eq!(refused(&format!("{figures}(hub\n(strict)\n(node)\n)\n")), Some((5, 1)));
+        assert_eq!(refused(&format!("{figures}(strict)\n")), Some((5, 1)));
+    }
+
     #[test]
     fn the_words_are_the_documents() {
         assert_eq!(
@@ -382,7 +407,7 @@ mod tests {
                 "k is 0 or above N",
                 "n above 64",
                 "b outside 512 to the plan's longest packet; in a reserve with n = 0 instead: b not 0",
-                "n in force at t is 0, or b above the b in force",
+                "n in force at t is 0 and the plan is strict, or it isn't 0 and b above the b in force",
                 "the frame can't hold it",
             ]
         );

@@ -21,6 +21,12 @@ pub fn longest(plan: &Plan) -> u64 {
     unsafe { ffi::lembuya_longest(plan) }
 }
 
+/// 1 or 0.
+pub fn strict(plan: &Plan) -> u32 {
+    // SAFETY: `plan` is whole.
+    unsafe { ffi::lembuya_strict(plan) }
+}
+
 pub fn fresh(cascade: &mut Cascade) {
     // SAFETY: `cascade` is whole and borrowed mutably.
     unsafe { ffi::lembuya_fresh(cascade) }

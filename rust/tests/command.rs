@@ -15,6 +15,27 @@ const RING: &str =
 const RING_LOG: &str = "(nodes 2 hubs 1)\n(refused 11 15)\n(grant 0 1 1 37000 0)\n(rest 37000 0)\n\
     (grant 200000 2 2 237000 0)\n(rest 237000 0)\n";
 
+/// Row 16 where the plan is strict, and where it isn't.
+const STRICT_16: &str =
+    "n in force at t is 0 and the plan is strict, or it isn't 0 and b above the b in force";
+const DEFAULT_16: &str = "b above the b in force";
+
+/// A laptop, node 2, that calls everything high beside a camera, node 1, which once asks for more than it reserved.
+const LAPTOP: &str = "(frame 100000)\n(overhead 1000)\n(interrupt 13000)\n(hub\n(node)\n(node)\n)\n\
+    (reserve 0 1 1 4000)\n(high 0 2 12000)\n(high 100000 1 4001)\n(high 100000 2 12000)\n(high 100000 1 4000)\n\
+    (until 200000)\n";
+/// By hand: line 10 asks for more than the 4,000 bits in force. Node 2's requests are normal: the first is granted at once, the
+/// second behind node 1's, each for 12,000 + 1,000. There is one hub, so control never moves.
+const LAPTOP_LOG: &str = "(nodes 2 hubs 1)\n(grant 0 2 1 13000 0)\n(rest 13000 0)\n(refused 10 16)\n\
+    (grant 100000 1 2 105000 0)\n(grant 105000 2 1 118000 0)\n(rest 118000 0)\n";
+/// By hand, with `(strict)`, so that each line has a number more: 10 and 12 are refused too, and node 2 has no turn.
+const LAPTOP_STRICT_LOG: &str = "(nodes 2 hubs 1)\n(refused 10 16)\n(refused 11 16)\n(refused 12 16)\n\
+    (grant 100000 1 2 105000 0)\n(rest 105000 0)\n";
+
+fn strict(text: &str) -> String {
+    text.replacen("(hub\n", "(strict)\n(hub\n", 1)
+}
+
 /// What the command did with words and standard input: status, standard output and standard error.
 fn lembuya(words: &[&str], stdin: &str) -> (i32, String, String) {
     let mut command = Command::new(env!("CARGO_BIN_EXE_lembuya"));
@@ -35,12 +56,7 @@ fn example() -> String {
 fn run_writes_the_log_and_says_what_is_refused() {
     let (status, out, err) = lembuya(&["run", EXAMPLE], "");
     assert_eq!((status, out.as_str()), (0, LOG));
-    assert_eq!(
-        err,
-        format!(
-            "{EXAMPLE}:15: refused 16: n in force at t is 0, or b above the b in force: (high 0 3 4000)\n"
-        )
-    );
+    assert_eq!(err, format!("{EXAMPLE}:16: refused 16: {STRICT_16}: (high 0 3 4000)\n"));
     assert_eq!(lembuya(&["run", "--quiet", "-"], &example()), (0, LOG.into(), String::new()));
 }
 
@@ -64,7 +80,7 @@ fn json_is_one_object_a_line() {
 fn limits_are_document_01s() {
     let text = example().replace("(normal 0 1 12000)", "(reserve 0 1 1 11000)");
     let (status, out, _) = lembuya(&["limits", "-"], &text);
-    assert_eq!(status, 0);
+    assert_eq!((status, out.lines().count()), (0, 6));
     let lines: Vec<Vec<&str>> = out.lines().map(|line| line.split_whitespace().collect()).collect();
     // D + 12,000 + 2 × 5,000; node 1: D + 12,000 + 1 × 5,000; node 3: D + 2 × 5,000 + 1 × 12,000.
     assert_eq!(lines[1], ["load", "35000", "of", "100000", "bit", "times,", "35.00", "%"]);
@@ -134,13 +150,13 @@ fn limits_and_pictures_say_the_framing() {
     let (status, out, _) = lembuya(&["limits", "-"], RING);
     let lines: Vec<Vec<&str>> = out.lines().map(|line| line.split_whitespace().collect()).collect();
     assert_eq!(status, 0);
-    assert!(lines[0].ends_with(&["framing", "5,", "longest", "packet", "36000"]), "{out}");
+    assert!(lines[0].ends_with(&["framing", "5,", "longest", "packet", "36000,", "not", "strict"]), "{out}");
     // D + 1 × (36,000 + 1,000), 37 % of 200,000; node 2's share is 37,000, 18.5 %, and its limit the whole load: it is alone.
     assert_eq!(lines[1], ["load", "74000", "of", "200000", "bit", "times,", "37.00", "%"]);
     assert_eq!(lines[3], ["2", "1", "36000", "37000", "18.50", "74000", "740.00"]);
     let (status, out, _) = lembuya(&["picture", "-"], RING);
     assert_eq!(status, 0);
-    assert!(out.contains("; framing 5, longest packet 36000 bits</text>"));
+    assert!(out.contains("; framing 5, longest packet 36000 bits; not strict</text>"));
     // All of it is 400,000 bit times on 1,000 units from 80 on, so a grant of 37,000 is 92.5 wide, and 200,000 stands at 580.
     let bars = |class: &str, grant: &str, x: &str| {
         let is_bar = |line: &&str| {
@@ -150,6 +166,58 @@ fn limits_and_pictures_say_the_framing() {
     };
     assert_eq!(bars("normal", "<title>(grant 0 1 1 37000 0)</title>", "80"), 1);
     assert_eq!(bars("high", "<title>(grant 200000 2 2 237000 0)</title>", "580"), 1);
+}
+
+#[test]
+fn a_laptop_is_normal_or_refused() {
+    let (status, out, err) = lembuya(&["run", "-"], LAPTOP);
+    assert_eq!((status, out.as_str()), (0, LAPTOP_LOG));
+    assert_eq!(err, format!("-:10: refused 16: {DEFAULT_16}: (high 100000 1 4001)\n"));
+    let (status, out, err) = lembuya(&["run", "-"], &strict(LAPTOP));
+    assert_eq!((status, out.as_str()), (0, LAPTOP_STRICT_LOG));
+    let lines = [(10, "(high 0 2 12000)"), (11, "(high 100000 1 4001)"), (12, "(high 100000 2 12000)")];
+    let told = lines.map(|(line, event)| format!("-:{line}: refused 16: {STRICT_16}: {event}\n"));
+    assert_eq!(err, told.concat());
+    // JSON and pictures have the same words.
+    for (text, line, words) in [(LAPTOP, 10, DEFAULT_16), (&strict(LAPTOP), 11, STRICT_16)] {
+        let (_, out, _) = lembuya(&["run", "--json", "-"], text);
+        let object = format!("\"form\":\"refused\",\"line\":{line},\"number\":16,\"words\":\"{words}\"}}");
+        assert!(out.contains(&object), "{out}");
+        let (_, out, _) = lembuya(&["picture", "-"], text);
+        assert!(out.contains(&format!("<title>(refused {line} 16): {words}</title>")), "{out}");
+    }
+}
+
+#[test]
+fn limits_and_pictures_say_whether_a_plan_is_strict() {
+    let limits = |text: &str| lembuya(&["limits", "-"], text).1;
+    let (default, with_line) = (limits(LAPTOP), limits(&strict(LAPTOP)));
+    assert!(default.lines().next().unwrap().ends_with(", longest packet 12000, not strict"), "{default}");
+    assert_eq!(default.lines().last(), Some("a high request without a reservation is taken as normal"));
+    // D + 1 × (4,000 + 1,000): the camera's share and limit are the same with the line.
+    let row = |page: &str| page.lines().nth(3).unwrap().split_whitespace().collect::<Vec<_>>().join(" ");
+    assert_eq!(row(&default), "1 1 4000 5000 5.00 18000 180.00");
+    assert_eq!(row(&with_line), row(&default));
+    assert!(with_line.lines().next().unwrap().ends_with(", longest packet 12000, strict"), "{with_line}");
+    assert_eq!(with_line.lines().last(), Some("a high request without a reservation is refused by 16"));
+    for (text, words) in [(LAPTOP, "not strict"), (&strict(LAPTOP), "strict")] {
+        let (_, out, _) = lembuya(&["picture", "-"], text);
+        assert!(out.contains(&format!("; framing 3, longest packet 12000 bits; {words}</text>")), "{out}");
+    }
+}
+
+#[test]
+fn a_strict_line_elsewhere_is_no_form() {
+    let refused = |text: &str, line: u64, shown: &str| {
+        let (status, out, err) = lembuya(&["run", "-"], text);
+        assert_eq!((status, out), (1, format!("(refused {line} 1)\n")));
+        assert!(err.starts_with(&format!("-:{line}: refused 1: not the form allowed here, ")), "{err}");
+        assert!(err.ends_with(&format!(": {shown}\n")), "{err}");
+    };
+    refused(&RING.replace("(framing 5)\n", "(strict)\n(framing 5)\n"), 5, "(framing 5)");
+    refused(&strict(&strict(RING)), 6, "(strict)");
+    refused(&strict(RING).replace("(strict)", "(strict 5)"), 5, "(strict 5)");
+    assert_eq!(lembuya(&["run", "--quiet", "-"], &strict(RING)).0, 0);
 }
 
 #[test]
@@ -213,6 +281,16 @@ fn help_says_what_d_must_be() {
         let flowing = out.split_whitespace().collect::<Vec<_>>().join(" ");
         assert!(flowing.contains("D is at least 12,000 + O, with (framing 5) 36,000 + O"), "{out}");
     }
+}
+
+#[test]
+fn help_says_what_the_strict_line_does() {
+    for words in [&["--help"][..], &["limits", "--help"], &["run", "--help"]] {
+        let out = lembuya(words, "").1;
+        assert!(out.contains("(strict)") && out.contains("normal"), "{out}");
+    }
+    let out = lembuya(&["--help"], "").1;
+    assert!(out.contains("perhaps (framing 3) or (framing 5)  perhaps (strict)  then one hub"), "{out}");
 }
 
 #[test]

@@ -20,6 +20,14 @@ struct Measured {
     unbroken: u64,
     held: u64,
     slacks: Vec<(u64, u64)>,
+    laptops: Laptops,
+}
+
+/// High requests of nodes that never reserve, by what became of them.
+#[derive(Clone, Copy, Default)]
+struct Laptops {
+    as_normal: u64,
+    refused: u64,
 }
 
 impl Measured {
@@ -34,6 +42,8 @@ impl Measured {
         self.unbroken += other.unbroken;
         self.held += other.held;
         self.slacks.extend(other.slacks);
+        self.laptops.as_normal += other.laptops.as_normal;
+        self.laptops.refused += other.laptops.refused;
     }
 
     /// The figures, in bit times and in parts of the limit.
@@ -73,11 +83,12 @@ struct Watched {
     hub: Archive,
     watch: Watch,
     calls: u64,
+    laptops: Laptops,
 }
 
 impl Watched {
     fn new(plan: &Plan) -> Watched {
-        Watched { hub: Archive::new(plan), watch: Watch::new(plan), calls: 0 }
+        Watched { hub: Archive::new(plan), watch: Watch::new(plan), calls: 0, laptops: Laptops::default() }
     }
 
     fn call(&mut self, call: Call) -> Answer {
@@ -87,6 +98,15 @@ impl Watched {
         answer
     }
 
+    /// A node that never reserves calls a packet high, and what row 16 says of that is counted.
+    fn laptop(&mut self, t: u64, k: u64, b: u64) {
+        match self.call(Call::High { t, k, b }) {
+            Answer::Taken => self.laptops.as_normal += 1,
+            Answer::Refused(16) => self.laptops.refused += 1,
+            _ => {}
+        }
+    }
+
     /// The list ends: none is broken.
     fn end(self, plan: &Plan, seed: u64, measured: &mut Measured) {
         let tally = self.watch.tally;
@@ -94,6 +114,8 @@ impl Watched {
         measured.reserved += tally.reserved;
         measured.unbroken += tally.unbroken;
         measured.held += tally.held;
+        measured.laptops.as_normal += self.laptops.as_normal;
+        measured.laptops.refused += self.laptops.refused;
         for held in self.watch.end() {
             assert!(
                 held.kept() && held.grants == held.n,
@@ -105,15 +127,21 @@ impl Watched {
     }
 }
 
+/// Request 8 of document 02: "Under either default a reserved unit keeps the share and limit it had."
 #[test]
 fn random_lists_keep_it() {
+    [true, false].into_iter().for_each(random_lists);
+}
+
+/// In plans that are strict, or not.
+fn random_lists(strict: bool) {
     const LENGTH: u64 = 2_000;
-    let lists = setting("LEMBUYA_CALLS", 1_000_000).div_ceil(LENGTH);
+    let lists = setting("LEMBUYA_CALLS", 1_000_000).div_ceil(2 * LENGTH);
     let mut measured = on_all(
         0..lists,
         |seed, measured| {
             let mut random = Random::new(seed);
-            let plan = plans::plan(&mut random);
+            let plan = Plan { strict, ..plans::plan(&mut random) };
             let mut caller = Caller::new(&plan, random.number(), Style::Loaded);
             let mut hub = Watched::new(&plan);
             for _ in 0..LENGTH {
@@ -125,18 +153,19 @@ fn random_lists_keep_it() {
         },
         Measured::join,
     );
-    measured.print("random lists");
+    measured.print(&format!("random lists, strict {strict}"));
     assert!(measured.held > lists * 10, "the premises hardly ever hold");
 }
 
 /// A list that presses against the limit: before a frame starts, or just at its start, a long normal packet
 /// takes the line; nodes that reserved all that the frame can hold ask while it runs, and again at each
-/// grant. Some of them miss a turn, ask for less or leave.
+/// grant. Some of them miss a turn, ask for less or leave. Laptops, which never reserve, call all of their
+/// long packets high meanwhile; often that packet too.
 fn press(plan: &Plan, random: &mut Random, hub: &mut Watched) {
-    let frame = plan.frame;
     let (nodes, longest) = (plan.nodes as u64, plan.longest_packet());
     let few = random.within(1..=nodes.min(10));
     let set: Vec<u64> = (0..few).map(|_| random.within(1..=nodes)).collect();
+    let laptops: Vec<u64> = (1..=nodes).filter(|k| !set.contains(k)).take(3).collect();
     let mut shares = vec![(0, 0); plan.nodes];
     for &k in &set {
         let (n, b) = (random.within(1..=6), random.within_or_end(512..=longest));
@@ -145,11 +174,13 @@ fn press(plan: &Plan, random: &mut Random, hub: &mut Watched) {
         }
     }
     for f in 2..8 {
-        let start = f * frame;
         let early = random.one_of(&[0, 0, 1, 1, 500, longest]);
-        let t = start - early;
+        let t = f * plan.frame - early;
         while matches!(hub.call(Call::Step { t }), Answer::Grant { .. } | Answer::Rest { .. }) {}
-        hub.call(Call::Normal { t, k: random.within(1..=nodes), b: longest });
+        match laptops.first() {
+            Some(&k) if random.chance(50) => hub.laptop(t, k, longest),
+            _ => drop(hub.call(Call::Normal { t, k: random.within(1..=nodes), b: longest })),
+        }
         hub.call(Call::Step { t: t + 1 });
         let mut order = set.clone();
         for from in (1..order.len()).rev() {
@@ -158,17 +189,24 @@ fn press(plan: &Plan, random: &mut Random, hub: &mut Watched) {
         for k in order {
             hub.call(Call::High { t, k, b: shares[k as usize - 1].1 });
         }
-        let faulty = random.chance(20);
-        let mut grants = vec![0; plan.nodes];
-        let late = start + frame - longest - 1;
-        while let Answer::Grant { time, node, class, .. } = hub.call(Call::Step { t: late }) {
-            let (n, b) = shares[node as usize - 1];
-            grants[node as usize - 1] += u64::from(class == High);
-            if grants[node as usize - 1] < n {
-                let b = if random.chance(95) { b } else { random.within(512..=b) };
-                if !(faulty && random.chance(10)) {
-                    hub.call(Call::High { t: time, k: node, b });
-                }
+        laptops.iter().for_each(|&k| hub.laptop(t, k, longest));
+        press_on(random, hub, &shares, &laptops, (f + 1) * plan.frame - longest - 1);
+    }
+}
+
+/// The rest of the frame, up to a late time in it: each asks again at its grants.
+fn press_on(random: &mut Random, hub: &mut Watched, shares: &[(u64, u64)], laptops: &[u64], late: u64) {
+    let faulty = random.chance(20);
+    let mut grants = vec![0; shares.len()];
+    while let Answer::Grant { time, node, class, .. } = hub.call(Call::Step { t: late }) {
+        let (n, b) = shares[node as usize - 1];
+        grants[node as usize - 1] += u64::from(class == High);
+        if laptops.contains(&node) {
+            hub.laptop(time, node, random.within(512..=12_000));
+        } else if grants[node as usize - 1] < n {
+            let b = if random.chance(95) { b } else { random.within(512..=b) };
+            if !(faulty && random.chance(10)) {
+                hub.call(Call::High { t: time, k: node, b });
             }
         }
     }
@@ -176,18 +214,20 @@ fn press(plan: &Plan, random: &mut Random, hub: &mut Watched) {
 
 #[test]
 fn pressing_lists_keep_it() {
-    Framing::BOTH.into_iter().for_each(pressing_lists);
+    for framing in Framing::BOTH {
+        [true, false].into_iter().for_each(|strict| pressing_lists(framing, strict));
+    }
 }
 
-/// By one framing, with D at its least.
-fn pressing_lists(framing: Framing) {
+/// By one framing, with D at its least, in plans that are strict, or not.
+fn pressing_lists(framing: Framing, strict: bool) {
     let lists = setting("LEMBUYA_CALLS", 1_000_000).div_ceil(400);
     let mut measured = on_all(
         0..lists,
         |seed, measured| {
             let mut random = Random::new(seed);
             let mut plan = plans::small_plan(&mut random, 40);
-            plan.framing_line = Some(framing);
+            (plan.framing_line, plan.strict) = (Some(framing), strict);
             plan.interrupt = plan.longest_packet() + plan.overhead;
             let mut hub = Watched::new(&plan);
             press(&plan, &mut random, &mut hub);
@@ -195,9 +235,13 @@ fn pressing_lists(framing: Framing) {
         },
         Measured::join,
     );
-    measured.print(&format!("pressing lists, framing {}", framing.number()));
+    measured.print(&format!("pressing lists, framing {}, strict {strict}", framing.number()));
     assert!(measured.held > lists, "the premises hardly ever hold");
     assert_eq!(measured.slacks[0].0, 0, "the limit is met exactly");
+    let Laptops { as_normal, refused } = measured.laptops;
+    println!("  laptops' high requests: {as_normal} taken as normal, {refused} refused by 16");
+    let (met, never) = if strict { (refused, as_normal) } else { (as_normal, refused) };
+    assert!(met > 10 * lists && never == 0, "{as_normal} taken as normal, {refused} refused");
 }
 
 // The tightest lists, written out.
@@ -237,7 +281,7 @@ fn tight(plan_text: &str, list: &[(Call, Answer)], found: &[(usize, u64, u64, u6
 /// length takes the line; then each asks again at each of its grants. Nodes 3 and 4 have no bit time left.
 #[test]
 fn no_bit_time_left_in_two_hubs() {
-    let plan = "(frame 100000)\n(overhead 1000)\n(interrupt 13000)\n(hub\n(node)\n(hub\n(node)\n(node)\n)\n(node)\n)\n";
+    let plan = "(frame 100000)\n(overhead 1000)\n(interrupt 13000)\n(strict)\n(hub\n(node)\n(hub\n(node)\n(node)\n)\n(node)\n)\n";
     let list = [
         reserve(0, 1, 1, 3_000),
         reserve(0, 2, 2, 3_000),
@@ -271,6 +315,43 @@ fn no_bit_time_left_in_two_hubs() {
         (4, 1, 2, 141_000, 141_000),
     ];
     tight(plan, &list, &found);
+}
+
+/// A camera, node 1, with two packets of 4,000 bits, and a laptop, node 2, that calls a packet of the greatest length high just as
+/// the frame starts. By default that is the packet in progress, and the camera has no bit time left; in a strict plan the laptop is
+/// refused and the camera is through 13,000 earlier. Its limit is 100,000 + 13,000 + 2 × 5,000 under either.
+#[test]
+fn no_bit_time_left_behind_a_laptop() {
+    let plan = |line: &str| {
+        format!("(frame 100000)\n(overhead 1000)\n(interrupt 13000)\n{line}(hub\n(node)\n(node)\n)\n")
+    };
+    let laptop = Call::High { t: 100_000, k: 2, b: 12_000 };
+    let by_default = [
+        reserve(0, 1, 2, 4_000),
+        (laptop, Answer::Taken),
+        step(100_001, grant(100_000, 2, Normal, 113_000, 0)),
+        high(100_000, 1, 4_000),
+        (laptop, Answer::Taken),
+        step(200_000, grant(113_000, 1, High, 118_000, 0)),
+        high(113_000, 1, 4_000),
+        step(200_000, grant(118_000, 1, High, 123_000, 0)),
+        step(200_000, grant(123_000, 2, Normal, 136_000, 0)),
+        step(200_000, Answer::Rest { time: 136_000, moves: 0 }),
+        step(200_000, Answer::Quiet),
+    ];
+    tight(&plan(""), &by_default, &[(1, 1, 2, 123_000, 123_000)]);
+    let with_line = [
+        reserve(0, 1, 2, 4_000),
+        (laptop, Answer::Refused(16)),
+        high(100_000, 1, 4_000),
+        step(100_001, grant(100_000, 1, High, 105_000, 0)),
+        high(100_000, 1, 4_000),
+        (laptop, Answer::Refused(16)),
+        step(200_000, grant(105_000, 1, High, 110_000, 0)),
+        step(200_000, Answer::Rest { time: 110_000, moves: 0 }),
+        step(200_000, Answer::Quiet),
+    ];
+    tight(&plan("(strict)\n"), &with_line, &[(1, 1, 2, 110_000, 123_000)]);
 }
 
 /// Found by random lists and cut down: node 9's own held request, too long for what it has since reserved,

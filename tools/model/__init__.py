@@ -1,4 +1,4 @@
-"""One model of document 01 with requests 3, 4, 5 and 13 of document 02, written from their words alone. Words in quotes are theirs.
+"""One model of document 01 with requests 3, 4, 5, 8 and 13 of document 02, written from their words alone. Words in quotes are theirs.
 
     figures      every number that the documents fix, named once
     text         lines of a text and their forms

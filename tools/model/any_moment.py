@@ -9,6 +9,8 @@ class Wait:
     """"Let a node put up a high request at time t with fewer than n high grants in that frame, keep it standing, and let no reservation
     change come into force until the grant. Then, with the steps run that far, its grant comes no later than t + D + the sum of c over all
     other nodes with a reservation in force." The request is the one at a place of the list: each premise, the grant, and the limit.
+
+    One that was taken as normal never has "fewer than n" before it, since its n is 0.
     """
 
     def __init__(self, plan, entries, place):
@@ -32,7 +34,8 @@ class Wait:
         return sum(b + self.plan.overhead for k, (n, b) in self.shares().items() if k != self.node and n > 0)
 
     def own_events(self):
-        """The node's accepted events before the grant. A normal or an off breaks the stand; a high only replaces the packet."""
+        """The node's accepted events before the grant. A normal or an off breaks the stand; a high only replaces the packet. One taken as
+        normal needs no mention: with fewer than n grants n is at least 1, and so it stays where no change comes into force."""
         waited = itertools.takewhile(lambda entry: not words.is_grant_to(entry, self.node), self.since)
         return [entry for entry in waited if words.accepted(entry, 'normal', 'high', 'off') and entry.call.k == self.node]
 

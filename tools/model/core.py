@@ -85,11 +85,16 @@ class Core:
 
     # Changes
 
+    def class_put_up(self, event):
+        """The class of the request that an accepted normal or high event puts up. "A high request from a node with n = 0 in force is taken
+        as normal"; in a strict plan row 16 has refused it."""
+        return CLASSES[event.word] if self.in_force(event.k, event.t).n > 0 else NORMAL
+
     def take(self, event):
         """What an accepted event changes."""
         self.advance(event.t)
         if event.word in CLASSES:
-            self.requests[event.k] = Request(CLASSES[event.word], event.b)  # "in place of any earlier one of its own"
+            self.requests[event.k] = Request(self.class_put_up(event), event.b)  # "in place of any earlier one of its own"
         elif event.word == 'off':
             self.requests.pop(event.k, None)
         elif event.word == 'reserve':

@@ -20,7 +20,8 @@ class Place(NamedTuple):
 
 
 class Plan:
-    """T, O and D; the framing; and the tree: "Nodes and hubs are numbered from 1 in line order, ports from 1 within their hub."
+    """T, O and D; the framing; whether it is strict; and the tree: "Nodes and hubs are numbered from 1 in line order, ports from 1 within
+    their hub."
 
     Making one takes its lines; it raises a Refusal at the first line that a row refuses.
     """
@@ -28,13 +29,13 @@ class Plan:
     shortest_packet = SHORTEST_PACKET
 
     def __init__(self, lines):
-        self.framing = FRAMING_MEANT
+        self.framing, self.strict = FRAMING_MEANT, False
         self.nodes = 0
         self.ports = {}  # hub -> its ports in order
         self.level = {}  # hub -> its level, "the root hub being level 1"
         self.above = {}  # each hub but the root -> its place
         self.read_figures(lines)
-        refuse(1, self.read_framing(lines) != b'(hub')
+        refuse(1, self.read_strict(lines, self.read_framing(lines)) != b'(hub')
         self.read_hub(lines, 1)
 
     @property
@@ -69,6 +70,14 @@ class Plan:
         refuse(4, self.framing not in LONGEST_PACKETS)
         refuse(2, self.interrupt < self.least_interrupt)
         return lines.next()
+
+    def read_strict(self, lines, line):
+        """"A plan line `(strict)` just before the root hub .., which goes behind any framing line." The line behind it, or the one given.
+
+        One that isn't the form stays for row 1 here too, and so does one in another place: it is no `(hub`, and no line of a hub.
+        """
+        self.strict = form(line, b'strict', 0) is not None
+        return lines.next() if self.strict else line
 
     def read_hub(self, lines, level):
         """The number of a hub whose line `(hub` has just been handed out; it is read up to its `)`."""

@@ -50,10 +50,11 @@ def no_length(core, call):
     return not core.plan.shortest_packet <= call.b <= core.plan.longest_packet
 
 
-# "n in force at t is 0, or b above the b in force"
+# "n in force at t is 0, or b above the b in force"; by request 8 only `(strict)` "keeps the refusal" where n is 0
 @row(16, ('high',))
 def not_reserved(core, call):
-    return not core.in_force(call.k, call.t).holds(call.b)
+    share = core.in_force(call.k, call.t)
+    return call.b > share.b if share.n > 0 else core.plan.strict
 
 
 # "The frame can't hold it."

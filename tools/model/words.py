@@ -31,6 +31,13 @@ def high_grants(plan, entries, k, f):
     return [grant for grant in granted if grant.class_ == HIGH and grant.time // plan.frame == f]
 
 
+def puts_up_high(plan, entries, place):
+    """Whether an entry puts up a high request: "if a high event put it up while k's n in force was at least 1". By request 8 one with
+    n = 0 is taken as normal: it is no high request in any of these words, and its grant is no high grant."""
+    asked = entries[place]
+    return accepted(asked, 'high') and reserved(plan, entries, asked.call.t // plan.frame)[asked.call.k][0] > 0
+
+
 def run_past(entries, t):
     """Whether every instant up to t is handled: by the clock, or by a quiet step of a later bound."""
     last = entries[-1]

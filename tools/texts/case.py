@@ -1,4 +1,5 @@
 """A text with its log, and the plans that most texts stand on."""
+import re
 from typing import NamedTuple
 
 
@@ -49,6 +50,20 @@ def plan(T, O, D, *hub):
 def framed(framing, lines):
     """The lines with a framing line as their fourth, so that each one behind it has a number more."""
     return [*lines[:3], f'(framing {framing})', *lines[3:]]
+
+
+def strict(lines):
+    """The lines with `(strict)` just before their root hub, so that each one behind it has a number more."""
+    root = lines.index('(hub')
+    return [*lines[:root], '(strict)', *lines[root:]]
+
+
+def one_line_later(log):
+    """A log, as a string, of a text that has gained a header line behind the figures."""
+    def later(found):
+        line = int(found[1])
+        return f'(refused {line + (line > 3)} '
+    return re.sub(r'\(refused (\d+) ', later, log.decode())
 
 
 EXAMPLE = plan(100000, 1000, 13000, '(hub', '(node)', '(hub', '(node)', '(node)', ')', '(node)', ')')

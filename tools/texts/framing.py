@@ -1,8 +1,6 @@
 """Request 3: the framing line, the longest packet and D. Every log here was worked out before the model could read such a line."""
-import re
-
 from . import order, trials
-from .case import EXAMPLE, Cases, as_bytes, figures, framed, lines_of, plan
+from .case import EXAMPLE, Cases, as_bytes, figures, framed, lines_of, one_line_later, plan, strict
 
 cases = Cases()
 
@@ -21,8 +19,8 @@ def pair(framing, T, O, D, events):
 
 # Framing 3 written out: the log worked out without it, but for the numbers of the lines from the fourth on.
 
-cases.worked('framing-3-written-out', "document 01's log with the framing that it means: its refused line is 16 instead of 15", framed(
-    3, EXAMPLE) + lines_of('''
+cases.worked('framing-3-written-out', "document 01's log with the framing that it means: its refused line is 17 instead of 16", strict(
+    framed(3, EXAMPLE)) + lines_of('''
 (reserve 0 3 2 4000)
 (normal 0 1 12000)
 (normal 0 4 6000)
@@ -33,7 +31,7 @@ cases.worked('framing-3-written-out', "document 01's log with the framing that i
 (until 200000)
 '''), '''
 (nodes 4 hubs 2)
-(refused 16 16)
+(refused 17 16)
 (grant 0 1 1 13000 0)
 (grant 13000 4 1 20000 0)
 (rest 20000 0)
@@ -42,15 +40,6 @@ cases.worked('framing-3-written-out', "document 01's log with the framing that i
 (grant 117000 1 1 119000 1)
 (rest 119000 0)
 ''')
-
-
-def one_line_later(log):
-    """A log of a text that has gained its fourth line."""
-    def later(found):
-        line = int(found[1])
-        return f'(refused {line + (line > 3)} '
-    return re.sub(r'\(refused (\d+) ', later, log.decode())
-
 
 for case in [*trials.cases, *order.cases]:
     cases.worked(f'framing-3-{case.name}', f'framing 3 written out in {case.name}: one line later, else the same',

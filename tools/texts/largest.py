@@ -1,5 +1,5 @@
 """The largest plan, and the most lines."""
-from .case import EXAMPLE, Cases, as_bytes, lines_of, plan
+from .case import EXAMPLE, Cases, as_bytes, lines_of, plan, strict
 
 cases = Cases()
 
@@ -26,7 +26,7 @@ for f in (1, 2, 3):
     load += [f'(reserve {start + 300000} {k} 0 0)' for k in range(f, 257, 16)]
 cases.by_model(
     'largest-load', 'the largest plan: all 256 nodes reserve, then ask in both classes over three frames, some give up',
-    plan(1000000, 96, 12096, *LARGEST) + load + ['(until 5000000)'])
+    strict(plan(1000000, 96, 12096, *LARGEST)) + load + ['(until 5000000)'])
 
 late = [f'(reserve 0 {k} 1 {600 if k % 5 else 512})' for k in range(256, 0, -1)]
 late += [f'(high 4000000 {k} 512)' for k in range(1, 257, 2)]

@@ -1,9 +1,9 @@
 """Two rows at once, and the steps before a refused event."""
-from .case import Cases, example
+from .case import Cases, example, strict
 
 cases = Cases()
 
-cases.worked('first-row-decides', 'where several rows apply, the first from above', example('''
+cases.worked('first-row-decides', 'where several rows apply, the first from above', strict(example('''
 (until 5)
 (normal 4 0 511)
 (reserve 4 0 65 511)
@@ -22,29 +22,30 @@ cases.worked('first-row-decides', 'where several rows apply, the first from abov
 (normal 1000000000000001 0 0
 (reserve 5 5 0 512)
 (reserve 5 1 65 0)
-'''), '''
+''')), '''
 (nodes 4 hubs 2)
-(refused 13 11)
 (refused 14 11)
-(refused 15 13)
-(refused 16 14)
-(refused 17 15)
-(refused 18 17)
-(refused 19 13)
-(refused 20 15)
-(refused 21 16)
-(refused 22 13)
-(refused 23 11)
-(refused 24 13)
-(refused 25 11)
-(refused 26 1)
+(refused 15 11)
+(refused 16 13)
+(refused 17 14)
+(refused 18 15)
+(refused 19 17)
+(refused 20 13)
+(refused 21 15)
+(refused 22 16)
+(refused 23 13)
+(refused 24 11)
+(refused 25 13)
+(refused 26 11)
 (refused 27 1)
-(refused 28 13)
-(refused 29 14)
+(refused 28 1)
+(refused 29 13)
+(refused 30 14)
 ''')
 
 cases.worked(
-    'steps-before-a-refused-event', 'the steps before t are made where the event is then refused by 13 to 17, not for 11', example('''
+    'steps-before-a-refused-event', 'the steps before t are made where the event is then refused by 13 to 17, not for 11',
+    strict(example('''
 (normal 0 1 512)
 (normal 2000 0 512)
 (normal 2000 1 512)
@@ -58,25 +59,25 @@ cases.worked(
 (normal 9512 1 512)
 (until 9000)
 (until 1000000000000001)
-'''), '''
+''')), '''
 (nodes 4 hubs 2)
 (grant 0 1 1 1512 0)
 (rest 1512 0)
-(refused 13 13)
+(refused 14 13)
 (grant 2000 1 1 3512 0)
 (rest 3512 0)
-(refused 15 14)
+(refused 16 14)
 (grant 4000 1 1 5512 0)
 (rest 5512 0)
-(refused 17 15)
+(refused 18 15)
 (grant 6000 1 1 7512 0)
 (rest 7512 0)
-(refused 19 16)
+(refused 20 16)
 (grant 8000 1 1 9512 0)
 (rest 9512 0)
-(refused 21 17)
-(refused 23 11)
+(refused 22 17)
 (refused 24 11)
+(refused 25 11)
 ''')
 
 cases.worked(

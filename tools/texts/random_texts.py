@@ -4,10 +4,10 @@ import random
 from model.calls import call, written
 from model.figures import FRAMING_MEANT, LATEST_TIME, LONGEST_PACKETS, MOST_LEVELS, MOST_PORTS
 from model.hub import Hub
-from model.log import answers_to
+from model.log import answers_to, log
 from model.plan import plan_of
 
-from .case import Cases, as_bytes, framed, plan
+from .case import Cases, as_bytes, framed, one_line_later, plan, strict
 
 cases = Cases()
 
@@ -62,8 +62,8 @@ def random_length(rng, plan):
     return rng.choice([512, 512, 600, 4000, plan.longest_packet, rng.randint(512, plan.longest_packet), *longer])
 
 
-def random_event(rng, core):
-    """Now and then with a number that a row refuses."""
+def random_event(rng, core, unreserved):
+    """Now and then with a number that a row refuses. `unreserved` says how often a node without a share asks high."""
     nodes, t = core.plan.nodes, random_time(rng, core)
     k = rng.randint(1, nodes) if rng.random() < .97 else rng.choice([0, nodes + 1, LARGEST_NUMBER])
     n, b = rng.choice([0, 1, 1, 2, 3]), random_length(rng, core.plan)
@@ -71,7 +71,7 @@ def random_event(rng, core):
     if x < .2:
         return random_reserve(rng, core, t, k, n, b)
     if x < .8:
-        return random_request(rng, core, t, k, b)
+        return random_request(rng, core, t, k, b, unreserved)
     return call('off', t, k) if x < .9 else call('until', t)
 
 
@@ -81,9 +81,9 @@ def random_reserve(rng, core, t, k, n, b):
     return call('reserve', t, k, n, b if n or rng.random() < .1 else 0)
 
 
-def random_request(rng, core, t, k, b):
+def random_request(rng, core, t, k, b, unreserved):
     longest = core.in_force(k, t).b if 1 <= k <= core.plan.nodes else 0
-    high = rng.random() < (.8 if longest else .1)
+    high = rng.random() < (.8 if longest else unreserved)
     b = b if rng.random() < .96 else rng.choice([0, 511, core.plan.longest_packet + 1, LARGEST_NUMBER])
     return call('high' if high else 'normal', t, k, min(b, longest) if high and longest and rng.random() < .9 else b)
 
@@ -94,16 +94,32 @@ def damaged(rng, line):
     return rng.choice([line[:at] + byte + line[at + 1:], line[:at] + line[at + 1:], line[:at] + byte + line[at:]])
 
 
-def random_text(rng, sizes, events, framing=None):
-    """A hub goes along, so that each event's time is near the clock. The framing line is there if a framing is given."""
+def random_plan(rng, sizes, framing=None):
+    """The framing line is there if a framing is given."""
     lines = plan(*random_figures(rng, framing or FRAMING_MEANT), *random_tree(rng, *sizes))
-    lines = framed(framing, lines) if framing else lines
-    hub = Hub(plan_of(lines))
-    for _ in range(events):
-        line = written(random_event(rng, hub.core))
+    return framed(framing, lines) if framing else lines
+
+
+def random_events(rng, plan_lines, count, unreserved=.1):
+    """A hub of the plan goes along, so that each event's time is near the clock."""
+    hub, lines = Hub(plan_of(plan_lines)), []
+    for _ in range(count):
+        line = written(random_event(rng, hub.core, unreserved))
         lines.append(damaged(rng, line) if rng.random() < .06 else line)
         list(answers_to(hub, lines[-1].encode()))
     return lines
+
+
+def random_text(rng, sizes, events, framing=None):
+    """As it was before request 8: the events go along with a hub that refuses unreserved high requests."""
+    lines = random_plan(rng, sizes, framing)
+    return lines + random_events(rng, strict(lines), events)
+
+
+def relying(lines):
+    """A text that relied on that refusal, so that its log isn't the same but for the line numbers, gets `(strict)`; another stays."""
+    relied = log(as_bytes(strict(lines))).decode() != one_line_later(log(as_bytes(lines)))
+    return strict(lines) if relied else lines
 
 
 def damaged_plan(rng, lines, plan_lines):
@@ -125,12 +141,12 @@ def add_cases():
     rng = random.Random(13)
     for i, sizes in enumerate(SIZES, 1):
         purpose = 'random events on at most {} hubs, {} nodes and {} empty ports'.format(*sizes)
-        cases.by_model(f'random-{i}', purpose, random_text(rng, sizes, 300))
+        cases.by_model(f'random-{i}', purpose, relying(random_text(rng, sizes, 300)))
     for i, sizes in enumerate(DAMAGED_SIZES, len(SIZES) + 1):
         lines = random_text(rng, sizes, 20)
         at = damaged_plan(rng, lines, len(lines) - 20)
         cases.by_model(f'random-{i}', f'random, with one damaged line in its plan, {at + 1}', lines)
-    short = random_text(rng, (6, 9, 3), 200)
+    short = relying(random_text(rng, (6, 9, 3), 200))
     cases.by_model(f'random-{len(SIZES) + 4}', 'random, cut in its last line', as_bytes(short)[:-3])
 
 
@@ -140,7 +156,7 @@ def add_framed_cases():
     for framing in LONGEST_PACKETS:
         for i, sizes in enumerate(FRAMED_SIZES, 1):
             purpose = 'random events with framing {} on at most {} hubs, {} nodes and {} empty ports'.format(framing, *sizes)
-            cases.by_model(f'random-framing-{framing}-{i}', purpose, random_text(rng, sizes, 150, framing))
+            cases.by_model(f'random-framing-{framing}-{i}', purpose, relying(random_text(rng, sizes, 150, framing)))
 
 
 add_cases()

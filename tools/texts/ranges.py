@@ -1,5 +1,5 @@
 """Both ends of every range: figures, times, ports and the length of a text."""
-from .case import EXAMPLE, Cases, as_bytes, example, plan, two
+from .case import EXAMPLE, Cases, as_bytes, example, plan, strict, two
 
 cases = Cases()
 
@@ -15,18 +15,18 @@ cases.worked('T-least', 'T = 100,000, O = 0, D = 12,000, both lengths at their m
 (rest 123999 0)
 ''')
 
-cases.worked('T-O-D-most', 'T = 4,000,000, O = 50,000, D = T', two(4000000, 50000, 4000000, '''
+cases.worked('T-O-D-most', 'T = 4,000,000, O = 50,000, D = T', strict(two(4000000, 50000, 4000000, '''
 (reserve 0 1 1 512)
 (reserve 0 1 0 0)
 (normal 3999999 2 12000)
 (high 4000000 1 512)
 (normal 4000000 1 512)
 (until 5000000)
-'''), '''
+''')), '''
 (nodes 2 hubs 1)
-(refused 8 17)
+(refused 9 17)
 (grant 3999999 2 1 4061999 0)
-(refused 11 16)
+(refused 12 16)
 (grant 4061999 1 1 4112511 0)
 (rest 4112511 0)
 ''')

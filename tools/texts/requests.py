@@ -1,5 +1,5 @@
 """Requests withdrawn and replaced."""
-from .case import Cases, example
+from .case import Cases, example, strict
 
 cases = Cases()
 
@@ -113,14 +113,14 @@ cases.worked('replaced-length', 'the last of three requests of one node stands, 
 (rest 14700 0)
 ''')
 
-cases.worked('not-replaced', 'a refused request does not replace the standing one', example('''
+cases.worked('not-replaced', 'a refused request does not replace the standing one', strict(example('''
 (normal 0 1 600)
 (normal 0 1 511)
 (high 0 1 512)
 (until 10)
-'''), '''
+''')), '''
 (nodes 4 hubs 2)
-(refused 13 15)
-(refused 14 16)
+(refused 14 15)
+(refused 15 16)
 (grant 0 1 1 1600 0)
 ''')

@@ -1,11 +1,11 @@
 """Rows 16 and 17: what is in force, and what the frame holds."""
-from .case import Cases, example, lines_of, plan, two
+from .case import Cases, example, lines_of, plan, strict, two
 
 cases = Cases()
 
 # row 16
 
-cases.worked('row-16', 'no reservation; one made in this frame; b above the b in force', example('''
+ROW_16 = example('''
 (high 0 1 512)
 (reserve 0 2 1 4000)
 (high 0 2 4000)
@@ -14,18 +14,19 @@ cases.worked('row-16', 'no reservation; one made in this frame; b above the b in
 (high 100000 2 4001)
 (high 100000 2 4000)
 (until 110000)
-'''), '''
+''')
+cases.worked('row-16', 'no reservation; one made in this frame; b above the b in force', strict(ROW_16), '''
 (nodes 4 hubs 2)
-(refused 12 16)
-(refused 14 16)
+(refused 13 16)
 (refused 15 16)
 (refused 16 16)
 (refused 17 16)
+(refused 18 16)
 (grant 100000 2 2 105000 1)
 (rest 105000 1)
 ''')
 
-cases.worked('row-16-at-t', 'in force at t, where t lies in a later frame than the clock: taken so and refused so', example('''
+cases.worked('row-16-at-t', 'in force at t, where t lies in a later frame than the clock: taken so and refused so', strict(example('''
 (reserve 0 2 1 4000)
 (high 99999 2 512)
 (high 100000 2 4000)
@@ -36,12 +37,12 @@ cases.worked('row-16-at-t', 'in force at t, where t lies in a later frame than t
 (high 200000 2 4000)
 (high 199999 2 4000)
 (until 200001)
-'''), '''
+''')), '''
 (nodes 4 hubs 2)
-(refused 13 16)
+(refused 14 16)
 (grant 100000 2 2 105000 1)
 (rest 105000 1)
-(refused 19 16)
+(refused 20 16)
 (grant 200000 2 1 205000 1)
 ''')
 
@@ -69,7 +70,7 @@ cases.worked('row-16-leaves-the-request', 'a refused high leaves the standing no
 (grant 100000 1 1 113000 0)
 ''')
 
-cases.worked('reserve-at-a-frame-start', 'a reserve at exactly a frame start is for the frame behind it', example('''
+cases.worked('reserve-at-a-frame-start', 'a reserve at exactly a frame start is for the frame behind it', strict(example('''
 (reserve 99999 2 1 512)
 (reserve 100000 1 1 512)
 (high 100000 1 512)
@@ -77,12 +78,12 @@ cases.worked('reserve-at-a-frame-start', 'a reserve at exactly a frame start is 
 (high 199999 1 512)
 (high 200000 1 512)
 (until 200001)
-'''), '''
+''')), '''
 (nodes 4 hubs 2)
-(refused 14 16)
+(refused 15 16)
 (grant 100000 2 2 101512 1)
 (rest 101512 1)
-(refused 16 16)
+(refused 17 16)
 (grant 200000 1 2 201512 0)
 ''')
 
@@ -104,10 +105,7 @@ cases.worked(
 (rest 205000 0)
 ''')
 
-cases.worked(
-    'refused-starts-no-frame',
-    'a refused event of the next frame does not start it: the held request is kept high by a reserve of this frame',
-    example('''
+NEXT_FRAME_HIGH = example('''
 (reserve 0 3 1 4000)
 (high 100000 3 4000)
 (high 100500 3 4000)
@@ -115,11 +113,15 @@ cases.worked(
 (high 200000 1 512)
 (reserve 199000 3 1 4000)
 (until 300000)
-'''), '''
+''')
+cases.worked(
+    'refused-starts-no-frame',
+    'a refused event of the next frame does not start it: the held request is kept high by a reserve of this frame',
+    strict(NEXT_FRAME_HIGH), '''
 (nodes 4 hubs 2)
 (grant 100000 3 2 105000 1)
 (rest 105000 1)
-(refused 16 16)
+(refused 17 16)
 (grant 200000 3 2 205000 3)
 (rest 205000 1)
 ''')
@@ -190,7 +192,8 @@ cases.worked('row-17-all-nodes', 'the sum over all four nodes: exactly full, and
 ''')
 
 cases.worked(
-    'row-17-latest-not-in-force', "the sum goes by the latest accepted ones; a share given up is in force to the frame's end", example('''
+    'row-17-latest-not-in-force', "the sum goes by the latest accepted ones; a share given up is in force to the frame's end",
+    strict(example('''
 (reserve 0 1 2 2000)
 (high 100000 1 2000)
 (reserve 100001 1 0 0)
@@ -203,13 +206,13 @@ cases.worked(
 (high 200000 1 2000)
 (high 200000 2 2000)
 (until 300000)
-'''), '''
+''')), '''
 (nodes 4 hubs 2)
 (grant 100000 1 2 103000 0)
-(refused 16 16)
+(refused 17 16)
 (grant 103000 1 2 106000 0)
 (rest 106000 0)
-(refused 21 16)
+(refused 22 16)
 (grant 200000 2 2 203000 1)
 (grant 203000 1 1 206000 1)
 (rest 206000 0)

@@ -1,5 +1,5 @@
 """Rows 11, 13, 14 and 15: times, nodes and lengths."""
-from .case import Cases, example, refusals, two
+from .case import Cases, example, refusals, strict, two
 
 cases = Cases()
 
@@ -81,7 +81,7 @@ cases.worked('row-11-clock-at-a-grant', 'the clock stands at the latest grant, n
 
 # row 13
 
-cases.worked('row-13', 'k = 0, N, N + 1 and 9999999999999999 in each event', example('''
+cases.worked('row-13', 'k = 0, N, N + 1 and 9999999999999999 in each event', strict(example('''
 (normal 0 0 512)
 (normal 0 4 512)
 (normal 0 5 512)
@@ -100,21 +100,21 @@ cases.worked('row-13', 'k = 0, N, N + 1 and 9999999999999999 in each event', exa
 (off 0 4)
 (off 0 1)
 (until 100000)
-'''), '''
+''')), '''
 (nodes 4 hubs 2)
-(refused 12 13)
-(refused 14 13)
+(refused 13 13)
 (refused 15 13)
 (refused 16 13)
-(refused 17 16)
-(refused 18 13)
+(refused 17 13)
+(refused 18 16)
 (refused 19 13)
 (refused 20 13)
 (refused 21 13)
 (refused 22 13)
 (refused 23 13)
-(refused 25 13)
+(refused 24 13)
 (refused 26 13)
+(refused 27 13)
 ''')
 
 cases.worked('row-13-not-cut-short', 'a k that is a node in 8, 16 or 32 bits is still no node', example('''

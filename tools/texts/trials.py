@@ -1,5 +1,5 @@
 """Document 01's trial cases."""
-from .case import Cases, example, lines_of, plan
+from .case import Cases, example, lines_of, plan, strict
 
 cases = Cases()
 
@@ -88,7 +88,7 @@ cases.worked('m6', 'n = 64 passes row 14 (and is refused by 17), 65 gives 14; n 
 (refused 14 15)
 ''')
 
-cases.worked('m7', '512 and 12,000 pass row 15, 511 and 12,001 do not, in all three events', example('''
+M7 = example('''
 (normal 0 1 511)
 (normal 0 1 512)
 (normal 0 2 12001)
@@ -102,16 +102,17 @@ cases.worked('m7', '512 and 12,000 pass row 15, 511 and 12,001 do not, in all th
 (high 0 3 12000)
 (high 0 3 12001)
 (until 50000)
-'''), '''
+''')
+cases.worked('m7', '512 and 12,000 pass row 15, 511 and 12,001 do not, in all three events', strict(M7), '''
 (nodes 4 hubs 2)
-(refused 12 15)
-(refused 14 15)
-(refused 16 15)
-(refused 18 15)
-(refused 20 15)
-(refused 21 16)
+(refused 13 15)
+(refused 15 15)
+(refused 17 15)
+(refused 19 15)
+(refused 21 15)
 (refused 22 16)
-(refused 23 15)
+(refused 23 16)
+(refused 24 15)
 (grant 0 1 1 1512 0)
 (grant 1512 2 1 14512 1)
 (rest 14512 1)

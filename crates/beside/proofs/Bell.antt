@@ -9,7 +9,7 @@ use Rattle.text.specs.Form.{andThen, readSpaced, readClose, readNumbers, readBe
 use Rattle.plan_tree.specs.Kind.{kindOf}
 use Rattle.plan_tree.specs.Tables.{putEmpty, putNode, putHub, putPorts, putRoot}
 use Rattle.plan.specs.Tables.{putFigures, planOf}
-use Rattle.plan.specs.Reading.{hubLines, rootLine, framingLine, interruptLine, overheadLine, frameLine, reading}
+use Rattle.plan.specs.Reading.{hubLines, rootLine, strictLine, framingLine, interruptLine, overheadLine, frameLine, reading}
 use Rattle.plan_theory.specs.Taken.{TakenAs}
 use Rattle.trials.specs.Text.{bytes, textOf}
 use Rattle.trials.specs.Plans.{plan01}
@@ -56,7 +56,7 @@ bell-lawful = record { as-until = ring-passed }
 
 -- by computing: the text is read, and each call made, by the definitions that `unfolding` names
 pub record Computed : Type 0 where
-  pub taken : TakenAs plan01 4 2 91 12
+  pub taken : TakenAs plan01 4 2 100 13
   pub answered : ran bell P01 worked .items ≡ worked
   pub counted : ran bell P01 worked .state ≡ 1
   pub projection : projected bell worked ≡ workedSeen
@@ -65,7 +65,7 @@ computed : Computed
 unfolding
     bytes textOf
     before lines digitRun keepDigit wellFormed valueFrom readRun readNumber startsWith isWord andThen readSpaced readClose readNumbers readBehind readForm
-    kindOf reading frameLine overheadLine interruptLine framingLine rootLine hubLines putRoot putNode putEmpty putHub putPorts putFigures planOf
+    kindOf reading frameLine overheadLine interruptLine framingLine strictLine rootLine hubLines putRoot putNode putEmpty putHub putPorts putFigures planOf
     any sum first advance shows maskUpTo withPort putPort atOrAfter anyUpTo firstOf lowestFrom
     putTime coreOf controlOf pointed freshCells mend mendBit mendClass putRequest grantNode clearMasks showPort showRequest showNodes showHub showHubs buildMasks startCells startNodes startFrame advanceBy soughtBy restingDue dueBy
     downBy takeBy upBy handUpBy foundBy lookBy afterLook walkBy nearerBy nearestBy walked settled chooseBy
@@ -86,5 +86,5 @@ as-worked =
       counted = computed .counted;
       projection = computed .projection;
       list = worked-list;
-      demands = extended-demands bell bell-lawful plan01 4 2 91 12 (computed .taken) worked-list;
+      demands = extended-demands bell bell-lawful plan01 4 2 100 13 (computed .taken) worked-list;
     }

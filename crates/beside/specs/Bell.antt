@@ -103,8 +103,8 @@ workedSeen =
     ∷ [])
 
 pub record Worked : Type 0 where
-  -- the plan's text is taken, with 4 nodes and 2 hubs; it ends at byte 91, and the next line would be line 12
-  pub taken : TakenAs plan01 4 2 91 12
+  -- the plan's text is taken, with 4 nodes and 2 hubs; it ends at byte 100, and the next line would be line 13
+  pub taken : TakenAs plan01 4 2 100 13
   -- made by computing, the calls are answered as they stand there, and 1 grant was counted since the bell was rung
   pub answered : ran bell P01 worked .items ≡ worked
   pub counted : ran bell P01 worked .state ≡ 1

@@ -9,7 +9,7 @@ use Rattle.rules.specs.Choice.{if_then_else_}
 use Rattle.rules.specs.Plan.{Plan}
 use Rattle.rules.specs.Call.{Class, normal, high, Call, ask, off, reserve, until, step, time, Answer, taken, refused, grant, rest, quiet}
 use Rattle.rules.specs.Core.{standing, bitsOf, before}
-use Rattle.rules.specs.Rows.{Row, Verdict, accept, refuse, firstRow, row11, row13, row14, row15, row15r, row16, row17}
+use Rattle.rules.specs.Rows.{Row, Verdict, accept, refuse, firstRow, row11, row13, row14, row15, row15r, row16, row17, putUp}
 use Rattle.ports.specs.Mask.{digit}
 use Rattle.cells.specs.declared.Due.{Due}
 use Rattle.cells.specs.declared.Due.the-variants.{At, Never}
@@ -17,7 +17,7 @@ use Rattle.cells.specs.declared.Sought.{Sought}
 use Rattle.cells.specs.declared.Sought.the-variants as seek
 use Rattle.cells.specs.declared.Step.{Step}
 use Rattle.cells.specs.declared.Step.the-variants.{Grant, Rest, Quiet, Refused}
-use Rattle.cells.specs.Layout.{end-cell, busy-cell, holder-cell, requestCell, latestCell, ifNode, putTime, shareCode, requestOf, requestCode}
+use Rattle.cells.specs.Layout.{end-cell, busy-cell, holder-cell, requestCell, forceCell, latestCell, ifNode, putTime, shareCode, shareOf, requestOf, requestCode}
 use Rattle.cells.specs.Decode.{planIn, coreOf}
 use Rattle.cells.specs.Masks.{putRequest, grantNode}
 use Rattle.cells.specs.Frames.{advanceBy}
@@ -47,9 +47,13 @@ numberOf (refuse n) = n
 unfoldable pub rowBy : List ℕ → Call → List ℕ → ℕ
 rowBy P call s = numberOf (firstRow (rowsBy (planIn P) s call))
 
+-- the cell of the request that an accepted event of node k puts up, by its reservation in force
+abbrev pub putUpCode : Class → ℕ → ℕ → List ℕ → ℕ
+putUpCode c k b s = requestCode (standing (putUp (shareOf (getD s (forceCell k) 0)) c) b)
+
 -- what an accepted event changes, once the clock has come to its time
 unfoldable pub changeBy : List ℕ → Call → List ℕ → List ℕ
-changeBy P (ask c t k b) s = putRequest P k (requestCode (standing c b)) s
+changeBy P (ask c t k b) s = putRequest P k (putUpCode c k b s) s
 changeBy P (off t k) s = putRequest P k 0 s
 changeBy P (reserve t k n b) s = set s (latestCell k) (shareCode n b)
 changeBy P (until t) s = s

@@ -21,6 +21,7 @@ bounded p =
       overhead = p .overhead;
       interrupt = p .interrupt;
       framing = p .framing;
+      strict = p .strict;
       nodes = min (p .nodes) most-nodes;
       hubs = p .hubs;
       ports = p .ports;

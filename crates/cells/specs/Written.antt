@@ -8,7 +8,6 @@ use lib.ListN.{getD, set}
 use Rattle.rules.specs.Choice.{if_then_else_}
 use Rattle.rules.specs.Plan.{most-levels}
 use Rattle.rules.specs.Call.{Call, ask, off, reserve, until, step, time}
-use Rattle.rules.specs.Core.{standing}
 use Rattle.ports.specs.Ports.{anyPort}
 use Rattle.ports.specs.Mask.{shows}
 use Rattle.plan_tree.specs.Tables as plan
@@ -16,14 +15,14 @@ use Rattle.cells.specs.declared.Due.{Due}
 use Rattle.cells.specs.declared.Due.the-variants.{At, Never}
 use Rattle.cells.specs.declared.Sought.{Sought}
 use Rattle.cells.specs.declared.Sought.the-variants as seek
-use Rattle.cells.specs.Layout.{standing-cell, maskCell, requestCell, forceCell, grantedCell, ifHub, ifNode, requestCode}
+use Rattle.cells.specs.Layout.{standing-cell, maskCell, requestCell, forceCell, grantedCell, ifHub, ifNode}
 use Rattle.cells.specs.Decode.{planIn}
 use Rattle.cells.specs.Masks.{standsIn, countsBy, maskWith, alike, mendClass, standingAfter, grantedMore}
 use Rattle.cells.specs.Build.{hubsIn}
 use Rattle.cells.specs.Frames.{newFrame, advanceBy}
 use Rattle.cells.specs.Instants.{dueBy, soughtBy}
 use Rattle.cells.specs.Turns.{Turned, chooseBy}
-use Rattle.cells.specs.Calls.{rowBy}
+use Rattle.cells.specs.Calls.{rowBy, putUpCode}
 
 -- ---- Masks
 
@@ -99,7 +98,7 @@ advanceWrites P t s = if newFrame (planIn P) t s then buildWrites P else 0
 
 -- beside `changeBy`
 unfoldable pub changeWrites : List ℕ → Call → List ℕ → ℕ
-changeWrites P (ask c t k b) s = putRequestWrites P k (requestCode (standing c b)) s
+changeWrites P (ask c t k b) s = putRequestWrites P k (putUpCode c k b s) s
 changeWrites P (off t k) s = putRequestWrites P k 0 s
 changeWrites P (reserve t k n b) s = 0
 changeWrites P (until t) s = 0

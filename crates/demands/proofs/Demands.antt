@@ -1,8 +1,9 @@
 -- The entry points meet the demands: every list of the six calls, from the fresh table of any plan text that is taken.
 use Prim.Native.Nat.{ℕ, _-_, _*_, _≤_}
 use mathlib.Core.Path.{_≡_, refl, sym, ap, ap₂, subst, subst₂, _∙_}
+use mathlib.Core.Bool.{Bool, false}
 use mathlib.Core.List.{List, [], _∷_, map}
-use Rattle.rules.specs.Plan.{Plan, levels}
+use Rattle.rules.specs.Plan.{Plan, withStrict, levels}
 use Rattle.rules.specs.Call.{Call, Answer}
 use Rattle.rules.specs.Core.{Core}
 use Rattle.rules.specs.Machine.{Hub, perform}
@@ -15,6 +16,7 @@ use Rattle.rules.specs.Saving.{SavesOn}
 use Rattle.rules.specs.Travel.{Travels}
 use Rattle.rules.specs.Looks.{callLooks, mostInCall, PlaceOf, FewLooks}
 use Rattle.rules.specs.Promises.{NoTimeLost, Admits}
+use Rattle.rules.specs.Strict.{answersIn, StaysNormal}
 use Rattle.rules.proofs.Core.Acceptance.{acceptable-taken, taken-acceptable}
 use Rattle.rules.proofs.Core.AlwaysSound.{Good, good}
 use Rattle.rules.proofs.Control.FollowsFlat.{control-follows}
@@ -42,6 +44,10 @@ use Rattle.demands.proofs.Sequence.{Made, sequence}
 clock-cells : (p : Plan) (s : List ℕ) → coreOf p s .clock ≡ timeAt s clock-cell
 unfolding coreOf
 clock-cells p s = refl
+
+-- a plan that isn't strict is itself without the line
+not-strict : (p : Plan) → p .strict ≡ false → p ≡ withStrict false p
+not-strict p e = ap (λ (b : Bool). withStrict b p) e
 
 module _ (P : List ℕ) (R : Ready P) (past : List Entry) (m : Made P past (madeBy P (callsOf past) .cells)) where
   abbrev p : Plan
@@ -107,6 +113,10 @@ module _ (P : List ℕ) (R : Ready P) (past : List Entry) (m : Made P past (made
             (tells p (R .drawn .figures) (control p) (control-follows p (R .drawn)) (hubOf p s) fine call));
         demand-3 = subst (Holds3 p) (sym same) (kept .demand-3);
         any-moment = subst (AnyMoment p) (sym same) (kept .any-moment);
+        either-default = kept .either-default;
+        as-normal = λ e.
+            ap answersIn same ∙ ap (λ (q : Plan). answersIn (made q (control q) calls .past)) (not-strict p e) ∙ kept .as-normal .answers;
+        stays-normal = subst (StaysNormal p) (sym same) (kept .stays-normal);
         hub = tied .hub;
         answers = λ call. agrees call .answer;
         leaves = leaves;

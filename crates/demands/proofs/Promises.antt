@@ -14,6 +14,9 @@ use Rattle.rules.proofs.Travel.EveryRun.{control-travels}
 use Rattle.rules.proofs.Looks.Calls.{control-looks}
 use Rattle.rules.proofs.Demand3.OfControl.{control-demand3}
 use Rattle.rules.proofs.AnyMoment.Theorem.{control-any-moment}
+use Rattle.rules.proofs.Strict.EitherDefault.{either-default}
+use Rattle.rules.proofs.Strict.TakenAsNormal.{taken-as-normal}
+use Rattle.rules.proofs.Strict.StaysNormal.{stays-normal}
 use Rattle.rules.proofs.Promised.NoTimeLost.{no-time-lost}
 use Rattle.rules.proofs.Core.Stable.{clock-grows}
 use Rattle.rules.proofs.Promised.Unchanged.{refusal-changes-nothing, quiet-changes-nothing}
@@ -42,6 +45,9 @@ module _ (p : Plan) (drawn : Drawn p) (calls : List Call) where
         few-looks = control-looks p drawn calls;
         demand-3 = control-demand3 p drawn calls;
         any-moment = control-any-moment p drawn calls;
+        either-default = either-default p drawn;
+        as-normal = taken-as-normal p calls;
+        stays-normal = stays-normal p drawn calls;
         no-time-lost = no-time-lost p (drawn .figures) (control p) (control-follows p drawn) (drawn .some-node) calls;
         clock-grows = one-more;
         refusal-changes-nothing = λ call. refusal-changes-nothing p (control p) call (cascade p calls .hub);

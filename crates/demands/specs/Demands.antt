@@ -10,6 +10,7 @@
 --   until(p, s, t)           EventPromise P (until t) s r z
 --   step(p, s, t)            StepPromise P t s r z
 --   lembuya_longest(p)       answers longest (planOf P), the longest packet (lembuya/src/lib.rt)
+--   lembuya_strict(p)        answers 1 where planOf P .strict, else 0
 --
 -- where P and s are the cells at entry, r is the answer and z the cascade's cells at exit. Below: what
 -- follows for every text that is read (`PlanDemands`), and for every list of such calls from the fresh
@@ -20,7 +21,8 @@ use mathlib.Core.Path.{_≡_}
 use mathlib.Core.Bool.{true, false}
 use mathlib.Core.Logic.{_↔_}
 use mathlib.Core.List.{List, [], _∷_, map}
-use Rattle.rules.specs.Plan.{Plan, levels}
+use mathlib.Core.Option.{Option}
+use Rattle.rules.specs.Plan.{Plan, withStrict, levels}
 use Rattle.rules.specs.Call.{Call, step, Answer, taken, refused, quiet}
 use Rattle.rules.specs.Machine.{perform}
 use Rattle.rules.specs.Flat.{flat}
@@ -33,9 +35,12 @@ use Rattle.rules.specs.Looks.{callLooks, mostInCall, FewLooks}
 use Rattle.rules.specs.Demand.{Holds3}
 use Rattle.rules.specs.AnyMoment.{AnyMoment}
 use Rattle.rules.specs.Promises.{NoTimeLost, Admits, Acceptable}
+use Rattle.rules.specs.Strict.{EitherDefault, runWith, allAsTaken, answersIn, StaysNormal}
 use Rattle.text.specs.Line.{lines}
 use Rattle.plan.specs.Reading.{reading, leaves}
-use Rattle.plan.specs.AsBefore.{hasFraming, readingBefore}
+use Rattle.plan.specs.Tables.{planOf}
+use Rattle.plan.specs.AsBefore.{hasFraming, hasStrict, readingBefore, readingBefore8}
+use Rattle.plan_theory.specs.Tree.{stands, withStrictLine, draw}
 use Rattle.plan_theory.specs.Taken.{DrawnBy, TakenAs, RefusedAt, TakenFor}
 use Rattle.plan_theory.specs.First.{RowApplies, DecidedBy}
 use Rattle.cells.specs.declared.Step.{Step}
@@ -58,8 +63,16 @@ pub record PlanDemands (text : List ℕ) : Type 0 where
   pub taken-no-row : DrawnBy text → (n k : ℕ) → RowApplies (lines text) n k → ⊥
   -- the first line from above to which a row applies, then the first row, decides
   pub first-line : (line number : ℕ) → RefusedAt text line number → DecidedBy text line number
-  -- request 3: a text whose fourth line is no framing's is read as document 01 alone has it
-  pub as-before : hasFraming text ≡ false → reading text ≡ readingBefore text
+  -- Request 8 of document 02: a text without the line `(strict)` is read as before that request,
+  pub as-before-8 : hasStrict text ≡ false → reading text ≡ readingBefore8 text
+  -- and one whose fourth line is no framing's either as document 01 alone has it (request 3)
+  pub as-before : hasFraming text ≡ false → hasStrict text ≡ false → reading text ≡ readingBefore text
+  -- these lines are those of the drawing, and the plan is strict just where the text has its line
+  pub framing-stands : (d : DrawnBy text) → hasFraming text ≡ stands (d .fig .framing)
+  pub strict-told : DrawnBy text → planOf (reading text .tables) .strict ≡ hasStrict text
+  -- a text of the same lines with a line `(strict)`, or without it, is read as the same plan but for that
+  pub strict-alone : (d : DrawnBy text) (line : Option (Unit {0})) (other : List ℕ) → lines other ≡ draw (withStrictLine line (d .fig)) (d .tree) (d .rest)
+      → planOf (reading other .tables) ≡ withStrict (stands line) (planOf (reading text .tables))
   -- Demand 1: a refused plan leaves the lent tables as they were
   pub refusal-changes-nothing : (line number : ℕ) → RefusedAt text line number → (plan : List ℕ) → leaves (reading text) plan ≡ plan
 
@@ -109,6 +122,13 @@ module _ (P : List ℕ) (p : Plan) (past : List Entry) (s : List ℕ) where
     -- Request 5 of document 02: a high request of a node with packets left in its frame, put up at any t and kept standing, is
     -- granted by t + D + the sum of c of the other nodes that have a reservation, where no change comes into force before
     pub any-moment : AnyMoment p past
+    -- Request 8 of document 02: under either default a reserved unit keeps the share and limit it had; the promise is the same one
+    pub either-default : EitherDefault p
+    -- and where the plan isn't strict, the answers are those of its strict cascade to the
+    -- calls as they are taken, each high request of a node with nothing reserved as a normal one
+    pub as-normal : p .strict ≡ false → answersIn past ≡ answersIn (runWith true p (allAsTaken p (callsOf past)) .past)
+    -- such a request stays a normal one when a reservation comes into force: it is no high request, and its grant is a normal grant
+    pub stays-normal : StaysNormal p past
     -- the cells are the hub that the calls left, and each further call answers as the rules do on that hub
     pub hub : hubOf p s ≡ made p (control p) (callsOf past) .hub
     pub answers : (call : Call) → answerTo call ≡ perform p (control p) call (hubOf p s) .answer

@@ -15,6 +15,7 @@ use Rattle.rules.specs.Looks.{FewLooks}
 use Rattle.rules.specs.Demand.{Holds3}
 use Rattle.rules.specs.AnyMoment.{AnyMoment}
 use Rattle.rules.specs.Promises.{NoTimeLost, Admits, Acceptable}
+use Rattle.rules.specs.Strict.{EitherDefault, TakenAsNormal, StaysNormal}
 
 module _ (p : Plan) (calls : List Call) where
   -- the cascade after these calls, with the list of calls and answers
@@ -49,6 +50,12 @@ module _ (p : Plan) (calls : List Call) where
     -- Request 5 of document 02: a high request of a node with packets left in its frame, put up at any t and kept standing, is
     -- granted by t + D + the sum of c of the other nodes that have a reservation, where no change comes into force before
     pub any-moment : AnyMoment p (cascade .past)
+    -- Request 8 of document 02: under either default a reserved unit keeps the share and limit it had; the promise is the same one
+    pub either-default : EitherDefault p
+    -- and without the line `(strict)` the run is the strict run of the calls as they are taken
+    pub as-normal : TakenAsNormal p calls
+    -- a request so taken stays a normal one when a reservation comes into force: it is no high request, and its grant is a normal grant
+    pub stays-normal : StaysNormal p (cascade .past)
     -- No time is lost, and the clock never goes back
     pub no-time-lost : NoTimeLost p (control p) (cascade .hub)
     pub clock-grows : (call : Call) → cascade .hub .core .clock ≤ left call .core .clock

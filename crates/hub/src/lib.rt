@@ -10,19 +10,21 @@ ghost use Prim.Native.Nat.{_≤_, _<_};
 ghost use lib.ListN.{set};
 ghost use Rattle.rules.specs.Plan.{most-nodes};
 ghost use Rattle.rules.specs.Call.{ask, off, reserve, until, normal, high};
-ghost use Rattle.rules.specs.Core.{standing};
 ghost use Rattle.event.specs.Call.{callOf};
-ghost use Rattle.cells.specs.Layout.{half, classOf, latestCell, requestCode};
-ghost use Rattle.cells.specs.Calls.{EventPromise, StepPromise};
+ghost use Rattle.cells.specs.Layout.{half, classOf, latestCell};
+ghost use Rattle.cells.specs.Calls.{putUpCode, EventPromise, StepPromise};
 
 mod handling;
 
-// The cell of a request.
-fn request_code(high: bool, b: u64) -> u32
-    requires { ⌜ b < half ⌝ }
-    ensures { λ r. ⌜ r ≡ requestCode (standing (classOf high) b) ⌝ }
+// The cell of the request that is put up: a high one of a node with nothing reserved in force is taken as a normal one.
+fn request_code(s: &Cascade, high: bool, k: u32, b: u64) -> u32
+    requires { ⌜ (1 ≤ k) × (k ≤ most-nodes) × (b < half) ⌝ }
+    ensures { λ r. ⌜ r ≡ putUpCode (classOf high) k b (now (s .entry)) ⌝ }
 {
     if high {
+        if s[cells::FORCE + (k as usize - 1)] < cells::HALF {
+            return cells::NORMAL + b as u32;
+        }
         return cells::HIGH + b as u32;
     }
     cells::NORMAL + b as u32
@@ -37,7 +39,8 @@ fn ask(p: &Plan, s: &mut Cascade, high: bool, t: u64, k: u64, b: u64) -> u32
         return row;
     }
     frames::advance(p, s, t);
-    requests::put_request(p, s, k as u32, request_code(high, b));
+    let code = request_code(s, high, k as u32, b);
+    requests::put_request(p, s, k as u32, code);
     0
 }
 

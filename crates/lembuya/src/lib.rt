@@ -8,6 +8,7 @@ use plan_tree::Plan;
 use writer::Put;
 ghost use mathlib.Core.Path.{_≡_};
 ghost use lib.ListN.{set};
+ghost use Rattle.rules.specs.Choice.{if_then_else_};
 ghost use Rattle.rules.specs.Plan.{longest};
 ghost use Rattle.rules.specs.Call.{ask, off, reserve, until, normal, high};
 ghost use Rattle.writer.specs.Write.{putAnswer, putBuffer, putRow};
@@ -59,6 +60,16 @@ pub extern "C" fn lembuya_longest(p: &Plan) -> u64
     ensures { λ r. ⌜ r ≡ longest (planOf (now (p .entry))) ⌝ }
 {
     header::longest(p[plan::FRAMING])
+}
+
+#[no_mangle]
+pub extern "C" fn lembuya_strict(p: &Plan) -> u32
+    ensures { λ r. ⌜ r ≡ (if planOf (now (p .entry)) .strict then 1 else 0) ⌝ }
+{
+    if p[plan::STRICT] != 0 {
+        return 1;
+    }
+    0
 }
 
 #[no_mangle]

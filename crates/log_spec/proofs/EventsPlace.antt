@@ -10,11 +10,11 @@ use Rattle.text.specs.Line.{Lines, ended, lines, drawLines}
 use Rattle.text.specs.Form.{drawForm}
 use Rattle.text.specs.declared.Cursor.{Cursor}
 use Rattle.text.proofs.Lines.{draw-lines}
-use Rattle.plan.specs.Words.{frame-word, overhead-word, interrupt-word, framing-word}
+use Rattle.plan.specs.Words.{frame-word, overhead-word, interrupt-word, framing-word, strict-word}
 use Rattle.plan_tree.specs.Kind.{close-word, node-word, empty-word, hub-word}
 use Rattle.plan.specs.Reading.{next}
-use Rattle.plan_theory.specs.Tree.{Port, node, empty, hub, Hub, close, port, drawPort, drawHub, Header, oneNumber, drawOptional, draw}
-use Rattle.plan_theory.specs.Behind.{pastPort, pastHub, pastOptional, pastInterrupt, pastFigures, past}
+use Rattle.plan_theory.specs.Tree.{Port, node, empty, hub, Hub, close, port, drawPort, drawHub, Header, oneNumber, noNumber, drawOptional, draw}
+use Rattle.plan_theory.specs.Behind.{pastPort, pastHub, pastOptional, pastInterrupt, pastFraming, pastFigures, past}
 use Rattle.plan_theory.specs.Taken.{TakenAs}
 use Rattle.plan_theory.proofs.Tree.TakenDrawn.{taken-drawn}
 use Rattle.plan_theory.proofs.Tree.Taken.{taken-of}
@@ -57,18 +57,18 @@ over-optional word numbers (some x) c d ls rest h = and-on (over-line c (drawFor
 
 -- the header's lines and the root's come before the root's ports
 draw-placed : (text : List ℕ) (fig : Header) (h : Hub) (rest : Lines) → lines text ≡ draw fig h rest → Placed text (past fig h .at) (past fig h .number)
-unfolding draw past pastFigures pastInterrupt
+unfolding draw past pastFigures pastFraming pastInterrupt
 draw-placed text fig h rest e =
     let c₀ : Cursor = record { at = 0; number = 1 } in
     let c₁ : Cursor = next c₀ (drawForm frame-word (fig .frame ∷ [])) in
     let c₂ : Cursor = next c₁ (drawForm overhead-word (fig .overhead ∷ [])) in
     let c₃ : Cursor = next c₂ (drawForm interrupt-word (fig .interrupt ∷ [])) in
     let c₄ : Cursor = pastOptional framing-word oneNumber (fig .framing) c₃ in
-    let root =
-    over-optional framing-word oneNumber (fig .framing) c₃ (past fig h) (ended hub-word (drawHub h rest)) rest
-    (and-on (over-line c₄ hub-word (drawHub h rest)) (over-hub h (next c₄ hub-word) rest))
-    in
-    let all : Onward c₀ (past fig h) (draw fig h rest) rest = and-on (over-line c₀ _ _) (and-on (over-line c₁ _ _) (and-on (over-line c₂ _ _) root)) in
+    let c₅ : Cursor = pastOptional strict-word noNumber (fig .strict) c₄ in
+    let root = and-on (over-line c₅ hub-word (drawHub h rest)) (over-hub h (next c₅ hub-word) rest) in
+    let strict = over-optional strict-word noNumber (fig .strict) c₄ (past fig h) (ended hub-word (drawHub h rest)) rest root in
+    let framing = over-optional framing-word oneNumber (fig .framing) c₃ (past fig h) _ rest strict in
+    let all : Onward c₀ (past fig h) (draw fig h rest) rest = and-on (over-line c₀ _ _) (and-on (over-line c₁ _ _) (and-on (over-line c₂ _ _) framing)) in
     let whole : length text ≡ length (drawLines (draw fig h rest)) = ap length (sym (draw-lines text) ∙ ap drawLines e) in
     record { some = omega arith; inside = omega arith; early = omega arith }
 

@@ -9,7 +9,7 @@ use Rattle.rules.specs.Plan.{Plan}
 use Rattle.rules.specs.Drawn.{Drawn}
 use Rattle.rules.specs.Call.{Class, Call, step, rest, time}
 use Rattle.rules.specs.Core.{Core, none, standing, bitsOf, advance, countsIn, at, due, class, sought}
-use Rattle.rules.specs.Rows.{change}
+use Rattle.rules.specs.Rows.{putUp, change}
 use Rattle.rules.specs.Machine.{Hub, Outcome, restful, grantTo, perform}
 use Rattle.rules.specs.Control.{Control, control}
 use Rattle.rules.specs.Run.{made}
@@ -40,7 +40,7 @@ module _ (p : Plan) where
   -- what an accepted event adds
   event-aside : (s : Core) {call : Call} → Acceptable p s call → aside (change call (advance p (time call) s)) ≤ aside s + 76
   event-aside s (asks c t k b a) =
-      omega (arith, put-stands p (advance p t s) k (a .node) (standing c b), advance-stands p t s, ap runs (advance-line p t s))
+      omega (arith, put-stands p (advance p t s) k (a .node) (standing (putUp (advance p t s .force k) c) b), advance-stands p t s, ap runs (advance-line p t s))
   event-aside s (leaves t k o w) = omega (arith, put-stands p (advance p t s) k w none, advance-stands p t s, ap runs (advance-line p t s))
   event-aside s (reserves t k n b a) = omega (arith, advance-stands p t s, ap runs (advance-line p t s))
   event-aside s (waits t o) = omega (arith, advance-stands p t s, ap runs (advance-line p t s))

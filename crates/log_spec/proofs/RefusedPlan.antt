@@ -17,9 +17,9 @@ use Rattle.plan_tree.specs.declared.Kind.the-variants.{Close, Node, Empty, Hub,
 use Rattle.plan.specs.declared.Answer.{Answer}
 use Rattle.plan.specs.declared.Answer.the-variants.{Taken, Refused}
 use Rattle.plan_tree.specs.Kind.{kindOf, isHub}
-use Rattle.plan.specs.Words.{frame-word, overhead-word, interrupt-word, framing-word}
+use Rattle.plan.specs.Words.{frame-word, overhead-word, interrupt-word, framing-word, strict-word}
 use Rattle.plan.specs.Tables.{Figures}
-use Rattle.plan.specs.Reading.{Read, refusal, next, onLine, Open, Progress, passes, addNode, addEmpty, openHub, closeHub, closed, byKind, hubLines, begun, rootLine, figure, optional, whereForm, unlessRow, framingRow, framingLine, interruptLine, overheadLine, frameLine, reading}
+use Rattle.plan.specs.Reading.{Read, refusal, next, onLine, Open, Progress, passes, addNode, addEmpty, openHub, closeHub, closed, byKind, hubLines, begun, rootLine, figure, optional, whereForm, unlessRow, framingRow, strictLine, framingLine, interruptLine, overheadLine, frameLine, reading}
 
 abbrev pub Named : Answer → Type 0
 Named (Taken nodes hubs at line) = Unit {0}
@@ -103,7 +103,7 @@ module _ (fig : Figures) where
 
 -- every answer to a text
 pub answer-named : (text : List ℕ) → Named (reading text .answer)
-unfolding reading frameLine overheadLine interruptLine framingLine
+unfolding reading frameLine overheadLine interruptLine framingLine strictLine
 answer-named text =
     line-names c₀ (omega arith) (lines text) _
     (λ l ls. figure-names c₀ (omega arith) (readForm frame-word 1 l) 100000 4000000 _ (λ T. overhead-names T ls (next c₀ l) (omega arith)))
@@ -119,11 +119,15 @@ answer-named text =
         go true true = omega arith
         go true false = omega arith
 
+    strict-names : (T O D framing : ℕ) (ls : Lines) (c : Cursor) → Counted c → Names (strictLine T O D framing ls c)
+    strict-names T O D framing ls c h =
+        optional-names c h strict-word 0 ls _ _ (λ l rest _. root-names _ rest (next c l) (omega arith)) (root-names _ ls c h)
+
     framing-names : (T O D : ℕ) (ls : Lines) (c : Cursor) → Counted c → Names (framingLine T O D ls c)
     framing-names T O D ls c h =
         optional-names c h framing-word 1 ls _ _
-        (λ l rest framing. unless-names c h (framingRow O D framing) _ (row-small O D framing) (root-names _ rest (next c l) (omega arith)))
-        (root-names _ ls c h)
+        (λ l rest framing. unless-names c h (framingRow O D framing) _ (row-small O D framing) (strict-names T O D framing rest (next c l) (omega arith)))
+        (strict-names T O D 3 ls c h)
 
     interrupt-names : (T O : ℕ) (ls : Lines) (c : Cursor) → Counted c → Names (interruptLine T O ls c)
     interrupt-names T O ls c h =

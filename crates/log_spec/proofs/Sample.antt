@@ -1,4 +1,5 @@
--- Document 01's example under "The log", by computing: its text has the nine lines that stand there.
+-- Document 01's example under "The log", by computing: with the line `(strict)` its text has the nine lines that stand there, but that
+-- the refused line is one further down. And its text without the line.
 use Prim.Native.String.{String}
 use mathlib.Core.Path.{_≡_, refl}
 use mathlib.Core.List.{List, [], _∷_, _++_, flatten}
@@ -10,7 +11,7 @@ use Rattle.writer.specs.Write.{drawLine}
 use Rattle.plan_tree.specs.Kind.{kindOf}
 use Rattle.plan_tree.specs.Tables.{putEmpty, putNode, putHub, putPorts, putRoot}
 use Rattle.plan.specs.Tables.{putFigures, planOf}
-use Rattle.plan.specs.Reading.{hubLines, rootLine, framingLine, interruptLine, overheadLine, frameLine, reading}
+use Rattle.plan.specs.Reading.{hubLines, rootLine, strictLine, framingLine, interruptLine, overheadLine, frameLine, reading}
 use Rattle.rules.specs.Choice.{any, sum, first}
 use Rattle.rules.specs.Core.{advance, countsIn, counts, held, due, sought}
 use Rattle.rules.specs.Control.{below, lowest, walk, led, nearest, chooseBy}
@@ -30,15 +31,26 @@ events01 =
 
 abbrev log01 : List String
 log01 =
-    "(nodes 4 hubs 2)" ∷ "(refused 15 16)" ∷ "(grant 0 1 1 13000 0)" ∷ "(grant 13000 4 1 20000 0)" ∷ "(rest 20000 0)"
+    "(nodes 4 hubs 2)" ∷ "(refused 16 16)" ∷ "(grant 0 1 1 13000 0)" ∷ "(grant 13000 4 1 20000 0)" ∷ "(rest 20000 0)"
     ∷ "(grant 99000 2 1 112000 1)" ∷ "(grant 112000 3 2 117000 2)" ∷ "(grant 117000 1 1 119000 1)" ∷ "(rest 119000 0)" ∷ []
 
-pub example : flatten (logOf (textOf (figures01 ++ tree01 ++ events01))) ≡ textOf log01
+-- without `(strict)` nothing is refused, and node 3's first packet is sent as a normal one
+abbrev log01-default : List String
+log01-default =
+    "(nodes 4 hubs 2)" ∷ "(grant 0 1 1 13000 0)" ∷ "(grant 13000 3 1 18000 1)" ∷ "(grant 18000 4 1 25000 1)" ∷ "(rest 25000 0)"
+    ∷ "(grant 99000 2 1 112000 1)" ∷ "(grant 112000 3 2 117000 2)" ∷ "(grant 117000 1 1 119000 1)" ∷ "(rest 119000 0)" ∷ []
+
+-- both texts' logs
+pub record Examples : Type 0 where
+  pub strict : flatten (logOf (textOf (figures01 ++ "(strict)" ∷ tree01 ++ events01))) ≡ textOf log01
+  pub default : flatten (logOf (textOf (figures01 ++ tree01 ++ events01))) ≡ textOf log01-default
+
+pub examples : Examples
 unfolding
     flatten bytes textOf handed
     before lines digitRun keepDigit wellFormed valueFrom readRun readNumber startsWith isWord andThen readSpaced readClose readNumbers readBehind readForm formOf
-    kindOf reading frameLine overheadLine interruptLine framingLine rootLine hubLines putRoot putNode putEmpty putHub putPorts putFigures planOf
+    kindOf reading frameLine overheadLine interruptLine framingLine strictLine rootLine hubLines putRoot putNode putEmpty putHub putPorts putFigures planOf
     any sum first advance countsIn counts held due sought below lowest walk led nearest chooseBy perform
     eventOf steps stepsBefore eventLog eventsLog planLog logOf
     digitsBy digits drawNumbers drawForm drawLine nodesHead nodesLine refusedLine grantLine restLine answerLine
-example = refl
+examples = record { strict = refl; default = refl }

@@ -4,6 +4,7 @@ use mathlib.Core.Path.{_≡_, refl, sym, ap, _∙_}
 use mathlib.Core.Bool.{Bool, true, false, _||_, false≢true}
 use native.Mathlib.Omega.{arith}
 use mathlib.Core.List.{List, [], _∷_}
+use mir.Val.{boolByte}
 use lib.Dec.{eqb, ltb}
 use borrow.Author.Tests.{eq-eqb, ne-eqb, eqb-true, lt-ltb, le-ltb, ltb-true, ltb-false}
 use Rattle.rules.specs.Choice.{if_then_else_}
@@ -17,15 +18,20 @@ use Rattle.plan_tree.specs.declared.Place.{Place}
 use Rattle.plan_tree.specs.declared.Part.{Part}
 use Rattle.plan_tree.specs.declared.Part.the-variants.{Read, Stopped}
 use Rattle.plan.specs.declared.Answer.the-variants.{Taken, Refused}
-use Rattle.plan.specs.Words.{frame-word, overhead-word, interrupt-word, framing-word}
+use Rattle.plan.specs.Words.{frame-word, overhead-word, interrupt-word, framing-word, strict-word}
 use lib.ListN.{length}
 use Rattle.plan.proofs.Reading.PlanBy.{plan-agrees}
 use Rattle.plan_tree.specs.Tables.{noTable}
-use Rattle.plan.specs.Tables.{Figures, putFigures}
+use Rattle.plan.specs.Tables.{Figures, strictCode, putFigures}
 use Rattle.plan.specs.Reading.{framingRow}
 use Rattle.plan.specs.Reading as reading
 use Rattle.plan_tree.specs.Readers.{Answered, rootReader}
-use Rattle.plan.specs.PlanReader.{hubAt, framingAt, interruptAt, overheadAt, planBy, refused, planOver, behindRoot}
+use Rattle.plan.specs.PlanReader.{hubAt, strictAt, framingAt, interruptAt, overheadAt, planBy, refused, planOver, behindRoot}
+
+-- whether a plan is strict, as a number: the code's is that of the definitions
+pub byte-code : (b : Bool) → boolByte b ≡ strictCode b
+byte-code true = refl
+byte-code false = refl
 
 -- the plan behind its figures, by what the root's line and the hub reader gave
 module _ (text : List ℕ) (left : ℕ) (fig : Figures) (c : Cursor) where
@@ -91,17 +97,26 @@ framing-small O D framing e = known-small framing (row-passed O D framing e .0)
 
 -- behind a figure, by what it is
 module _ (text : List ℕ) (left : ℕ) where
+  module _ (T O D framing : ℕ) (c : Cursor) where
+    pub strict-absent : optionalAt text c strict-word 0 ≡ Absent
+        → strictAt text left T O D framing c
+        ≡ hubAt text left (record { frame = T; overhead = O; interrupt = D; framing = framing; strict = false }) c
+    strict-absent e = rw e
+
+    pub strict-says : (x : ℕ) (next : Cursor) → optionalAt text c strict-word 0 ≡ Says x next
+        → strictAt text left T O D framing c
+        ≡ hubAt text left (record { frame = T; overhead = O; interrupt = D; framing = framing; strict = true }) next
+    strict-says x next e = rw e
+
   module _ (T O D : ℕ) (c : Cursor) where
-    pub framing-absent : optionalAt text c framing-word 1 ≡ Absent
-        → framingAt text left T O D c ≡ hubAt text left (record { frame = T; overhead = O; interrupt = D; framing = 3 }) c
+    pub framing-absent : optionalAt text c framing-word 1 ≡ Absent → framingAt text left T O D c ≡ strictAt text left T O D 3 c
     framing-absent e = rw e
 
     module _ (framing : ℕ) (next : Cursor) (says : optionalAt text c framing-word 1 ≡ Says framing next) where
       pub framing-not : (framingRow O D framing ≡ 0 → ⊥) → framingAt text left T O D c ≡ refused (c .number) (framingRow O D framing)
       framing-not n = rw says (rw (ne-eqb (framingRow O D framing) 0 n))
 
-      pub framing-got : framingRow O D framing ≡ 0
-          → framingAt text left T O D c ≡ hubAt text left (record { frame = T; overhead = O; interrupt = D; framing = framing }) next
+      pub framing-got : framingRow O D framing ≡ 0 → framingAt text left T O D c ≡ strictAt text left T O D framing next
       framing-got z = rw says (rw (eq-eqb (framingRow O D framing) 0 z))
 
   module _ (T O : ℕ) (c : Cursor) where

@@ -2,6 +2,7 @@
 -- cursors, then the hub reader. It reads what `reading` of Reading reads;
 -- that is proved in proofs/.
 use Prim.Native.Nat.{ℕ, _+_, _-_}
+use mathlib.Core.Bool.{true, false}
 use mathlib.Core.List.{List, []}
 use lib.Dec.{eqb}
 use Rattle.rules.specs.Choice.{if_then_else_}
@@ -16,7 +17,7 @@ use Rattle.header.specs.Lines.{figureAt, optionalAt, rootAt}
 use Rattle.plan_tree.specs.declared.Place.{Place}
 use Rattle.plan_tree.specs.declared.Part.{Part}
 use Rattle.plan_tree.specs.declared.Part.the-variants.{Read, Stopped}
-use Rattle.plan.specs.Words.{frame-word, overhead-word, interrupt-word, framing-word}
+use Rattle.plan.specs.Words.{frame-word, overhead-word, interrupt-word, framing-word, strict-word}
 use Rattle.plan_tree.specs.Tables.{noTable}
 use Rattle.plan.specs.Tables.{Figures, putFigures}
 use Rattle.plan.specs.Reading.{unlessRow, framingRow}
@@ -57,13 +58,17 @@ module _ (text : List ℕ) (left : ℕ) where
   abbrev pub hubAt : Figures → Cursor → reading.Read
   hubAt fig c = planOver fig (behindRoot (rootAt text c) (λ x. rootReader text left x noTable))
 
+  abbrev pub strictAt : ℕ → ℕ → ℕ → ℕ → Cursor → reading.Read
+  strictAt T O D framing c =
+      behindOptional (optionalAt text c strict-word 0)
+      (λ _ next. hubAt (record { frame = T; overhead = O; interrupt = D; framing = framing; strict = true }) next)
+      (hubAt (record { frame = T; overhead = O; interrupt = D; framing = framing; strict = false }) c)
+
   abbrev pub framingAt : ℕ → ℕ → ℕ → Cursor → reading.Read
   framingAt T O D c =
       behindOptional (optionalAt text c framing-word 1)
-      (λ framing next.
-      unlessRow (framingRow O D framing) c
-      (hubAt (record { frame = T; overhead = O; interrupt = D; framing = framing }) next))
-      (hubAt (record { frame = T; overhead = O; interrupt = D; framing = 3 }) c)
+      (λ framing next. unlessRow (framingRow O D framing) c (strictAt T O D framing next))
+      (strictAt T O D 3 c)
 
   abbrev pub interruptAt : ℕ → ℕ → Cursor → reading.Read
   interruptAt T O c = behindFigure (figureAt text c interrupt-word (longestIn 3 + O) T) (λ D next. framingAt T O D next)

@@ -15,7 +15,7 @@ use Rattle.plan_tree.specs.declared.Kind.the-variants.{Close, Node, Empty, Hub,
 use Rattle.plan.specs.declared.Answer.{Answer}
 use Rattle.plan.specs.declared.Answer.the-variants.{Taken, Refused}
 use Rattle.plan_tree.specs.Kind.{kindOf, isHub}
-use Rattle.plan.specs.Words.{frame-word, overhead-word, interrupt-word, framing-word}
+use Rattle.plan.specs.Words.{frame-word, overhead-word, interrupt-word, framing-word, strict-word}
 use Rattle.plan_tree.specs.Tables.{noTable, putEmpty, putNode, putHub, putPorts, putRoot}
 use Rattle.plan.specs.Tables.{Figures, putFigures}
 
@@ -174,6 +174,13 @@ optional word count (ended l rest) says absent = whereForm (readForm word count 
 abbrev pub unlessRow : ℕ → Cursor → Read → Read
 unlessRow number c more = if eqb number 0 then more else refusal c number
 
+-- the line `(strict)`, which has no number; without it the plan isn't strict
+unfoldable pub strictLine : ℕ → ℕ → ℕ → ℕ → Lines → Cursor → Read
+strictLine T O D framing ls c =
+    optional strict-word 0 ls
+    (λ l rest _. rootLine (record { frame = T; overhead = O; interrupt = D; framing = framing; strict = true }) rest (next c l))
+    (rootLine (record { frame = T; overhead = O; interrupt = D; framing = framing; strict = false }) ls c)
+
 -- 4: the framing is neither 3 nor 5; then 2: D is too small for it
 abbrev pub framingRow : ℕ → ℕ → ℕ → ℕ
 framingRow O D framing =
@@ -184,10 +191,8 @@ framingRow O D framing =
 unfoldable pub framingLine : ℕ → ℕ → ℕ → Lines → Cursor → Read
 framingLine T O D ls c =
     optional framing-word 1 ls
-    (λ l rest framing.
-    unlessRow (framingRow O D framing) c
-    (rootLine (record { frame = T; overhead = O; interrupt = D; framing = framing }) rest (next c l)))
-    (rootLine (record { frame = T; overhead = O; interrupt = D; framing = 3 }) ls c)
+    (λ l rest framing. unlessRow (framingRow O D framing) c (strictLine T O D framing rest (next c l)))
+    (strictLine T O D 3 ls c)
 
 -- D is 12,000 + O to T, 12,000 being the longest packet of framing 3
 unfoldable pub interruptLine : ℕ → ℕ → Lines → Cursor → Read

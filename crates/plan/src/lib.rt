@@ -11,7 +11,7 @@ ghost use Prim.Native.Nat.{_≤_};
 ghost use lib.ListN.{length};
 ghost use Rattle.plan.specs.Tables.{putFigures};
 ghost use Rattle.plan.specs.Reading.{framingRow, reading, leaves};
-ghost use Rattle.plan.specs.PlanReader.{hubAt, framingAt, interruptAt, overheadAt};
+ghost use Rattle.plan.specs.PlanReader.{hubAt, strictAt, framingAt, interruptAt, overheadAt};
 
 // A plan is taken, with its numbers of nodes and hubs and where the events
 // start (byte and line number), or refused at a line with a number.
@@ -28,7 +28,7 @@ pub enum Answer {
     },
 }
 
-// The figures' cells, before those of the hubs: T, O, D, N, H and the framing. Two more are kept for later figures.
+// The figures' cells, before those of the hubs: T, O, D, N, H, the framing and whether the plan is strict. One more is kept.
 pub const FRAME: usize = 0;
 
 pub const OVERHEAD: usize = 1;
@@ -41,10 +41,21 @@ pub const HUB_COUNT: usize = 4;
 
 pub const FRAMING: usize = 5;
 
-// The six figures.
-fn put_figures(s: &mut Plan, t: u64, o: u64, d: u64, framing: u64, nodes: u32, hubs: u32)
+pub const STRICT: usize = 6;
+
+// The seven figures.
+fn put_figures(
+    s: &mut Plan,
+    t: u64,
+    o: u64,
+    d: u64,
+    framing: u64,
+    strict: bool,
+    nodes: u32,
+    hubs: u32,
+)
     requires { ⌜ (t ≤ 4000000) × (o ≤ 50000) × (d ≤ 4000000) × (framing ≤ 5) ⌝ }
-    ensures { λ _. ⌜ now (s .exit) ≡ putFigures (record { frame = t; overhead = o; interrupt = d; framing = framing }) nodes hubs (now (s .entry)) ⌝ }
+    ensures { λ _. ⌜ now (s .exit) ≡ putFigures (record { frame = t; overhead = o; interrupt = d; framing = framing; strict = strict }) nodes hubs (now (s .entry)) ⌝ }
 {
     s[FRAME] = t as u32;
     s[OVERHEAD] = o as u32;
@@ -52,13 +63,23 @@ fn put_figures(s: &mut Plan, t: u64, o: u64, d: u64, framing: u64, nodes: u32, h
     s[NODE_COUNT] = nodes;
     s[HUB_COUNT] = hubs;
     s[FRAMING] = framing as u32;
+    s[STRICT] = strict as u32;
 }
 
 // The root hub at a cursor. It is read into a table of its own, which takes the lent one's place at the end.
-fn hub_at(text: &[u8], plan: &mut Plan, t: u64, o: u64, d: u64, framing: u64, c: Cursor) -> Answer
+fn hub_at(
+    text: &[u8],
+    plan: &mut Plan,
+    t: u64,
+    o: u64,
+    d: u64,
+    framing: u64,
+    strict: bool,
+    c: Cursor,
+) -> Answer
     requires { ⌜ (t ≤ 4000000) × (o ≤ 50000) × (d ≤ 4000000) × (framing ≤ 5) ⌝ }
-    ensures { λ r. ⌜ r ≡ hubAt (now (text .entry)) (length (now (text .entry))) (record { frame = t; overhead = o; interrupt = d; framing = framing }) c .answer ⌝ }
-    ensures { λ r. ⌜ now (plan .exit) ≡ leaves (hubAt (now (text .entry)) (length (now (text .entry))) (record { frame = t; overhead = o; interrupt = d; framing = framing }) c) (now (plan .entry)) ⌝ }
+    ensures { λ r. ⌜ r ≡ hubAt (now (text .entry)) (length (now (text .entry))) (record { frame = t; overhead = o; interrupt = d; framing = framing; strict = strict }) c .answer ⌝ }
+    ensures { λ r. ⌜ now (plan .exit) ≡ leaves (hubAt (now (text .entry)) (length (now (text .entry))) (record { frame = t; overhead = o; interrupt = d; framing = framing; strict = strict }) c) (now (plan .entry)) ⌝ }
 {
     match header::root_at(text, c) {
         Part::Read(x) => {
@@ -71,7 +92,7 @@ fn hub_at(text: &[u8], plan: &mut Plan, t: u64, o: u64, d: u64, framing: u64, c:
                             number: 3,
                         };
                     }
-                    put_figures(&mut s, t, o, d, framing, y.nodes, y.hubs);
+                    put_figures(&mut s, t, o, d, framing, strict, y.nodes, y.hubs);
                     *plan = s;
                     Answer::Taken {
                         nodes: y.nodes,
@@ -84,6 +105,26 @@ fn hub_at(text: &[u8], plan: &mut Plan, t: u64, o: u64, d: u64, framing: u64, c:
             }
         }
         Part::Stopped { line, number } => Answer::Refused { line, number },
+    }
+}
+
+// The line `(strict)`, which has no number, or without it a plan that isn't strict, and what follows.
+fn strict_at(
+    text: &[u8],
+    plan: &mut Plan,
+    t: u64,
+    o: u64,
+    d: u64,
+    framing: u64,
+    c: Cursor,
+) -> Answer
+    requires { ⌜ (t ≤ 4000000) × (o ≤ 50000) × (d ≤ 4000000) × (framing ≤ 5) ⌝ }
+    ensures { λ r. ⌜ r ≡ strictAt (now (text .entry)) (length (now (text .entry))) t o d framing c .answer ⌝ }
+    ensures { λ r. ⌜ now (plan .exit) ≡ leaves (strictAt (now (text .entry)) (length (now (text .entry))) t o d framing c) (now (plan .entry)) ⌝ }
+{
+    match header::optional_at(text, c, b"(strict", 0) {
+        Optional::Says { value: _, next } => hub_at(text, plan, t, o, d, framing, true, next),
+        Optional::Absent => hub_at(text, plan, t, o, d, framing, false, c),
     }
 }
 
@@ -116,9 +157,9 @@ fn framing_at(text: &[u8], plan: &mut Plan, t: u64, o: u64, d: u64, c: Cursor) -
                     number,
                 };
             }
-            hub_at(text, plan, t, o, d, value, next)
+            strict_at(text, plan, t, o, d, value, next)
         }
-        Optional::Absent => hub_at(text, plan, t, o, d, 3, c),
+        Optional::Absent => strict_at(text, plan, t, o, d, 3, c),
     }
 }
 

@@ -18,3 +18,4 @@ pub mod Trees
 pub mod TakenDrawn
 pub mod OneTree
 pub mod Taken
+pub mod Strictness

@@ -37,6 +37,7 @@ pub record FiguresTold (p : rules.Plan) (fig : Figures) : Type 0 where
   pub overhead : p .overhead ≡ fig .overhead
   pub interrupt : p .interrupt ≡ fig .interrupt
   pub framing : p .framing ≡ fig .framing
+  pub strict : p .strict ≡ fig .strict
 
 -- The plan has the tree's ports, numbered in line order: at port q of hub g what is drawn there, behind n nodes and
 -- h hubs; and at the ports of hub g behind port q what is drawn there, which are its last.
@@ -50,7 +51,8 @@ unfoldable mutual
   HubTold p close g q n h = p .ports g ≡ q
   HubTold p (port x y) g q n h = PortTold p x g (q + 1) n h × HubTold p y g (q + 1) (n + nodesAt x) (h + hubsAt x)
 
--- the text is taken for this tree and the figures that its header's lines draw, framing 3 without a line; `rest` is what stands behind it
+-- the text is taken for this tree and the figures that its header's lines draw (framing 3, and not strict, without those lines);
+-- `rest` is what stands behind it
 pub record TakenFor (text : List ℕ) (fig : Header) (h : Hub) (rest : Lines) : Type 0 where
   pub answer : TakenAs text (nodesIn h) (hubsIn h) (past fig h .at) (past fig h .number)
   pub tables : reading text .tables ≡ tablesOf (figuresOf fig) h

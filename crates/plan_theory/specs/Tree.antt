@@ -7,7 +7,7 @@ use lib.Dec.{leb, eqb}
 use Rattle.rules.specs.Plan.{longestIn, most-hubs, most-ports, most-nodes, most-levels}
 use Rattle.text.specs.Line.{Lines, ended}
 use Rattle.text.specs.Form.{drawForm}
-use Rattle.plan.specs.Words.{frame-word, overhead-word, interrupt-word, framing-word}
+use Rattle.plan.specs.Words.{frame-word, overhead-word, interrupt-word, framing-word, strict-word}
 use Rattle.plan_tree.specs.Kind.{close-word, node-word, empty-word, hub-word}
 use Rattle.plan_tree.specs.Tables.{noTable, putEmpty, putNode, putHub, putPorts, putRoot}
 use Rattle.plan.specs.Tables.{Figures, putFigures}
@@ -35,19 +35,25 @@ unfoldable mutual
   drawHub close rest = ended close-word rest
   drawHub (port x h) rest = drawPort x (drawHub h rest)
 
--- what the header's lines draw: three figures, and the framing where it has a line
+-- what the header's lines draw: three figures, the framing where it has a line, and whether there is a line `(strict)`
 pub record Header : Type 0 where
   pub frame : ℕ
   pub overhead : ℕ
   pub interrupt : ℕ
   pub framing : Option ℕ
+  pub strict : Option (Unit {0})
 
 -- the number that is meant by a line that may be missing
 abbrev pub meant : ℕ → Option ℕ → ℕ
 meant absent none = absent
 meant absent (some x) = x
 
--- without a line framing 3 is meant
+-- whether a line that may be missing stands
+abbrev pub stands : {A : Type 0} → Option A → Bool
+stands none = false
+stands (some x) = true
+
+-- without a line framing 3 is meant, and a plan that isn't strict
 abbrev pub figuresOf : Header → Figures
 figuresOf fig =
     record {
@@ -55,6 +61,18 @@ figuresOf fig =
       overhead = fig .overhead;
       interrupt = fig .interrupt;
       framing = meant 3 (fig .framing);
+      strict = stands (fig .strict);
+    }
+
+-- the same header with a line `(strict)`, or without it
+abbrev pub withStrictLine : Option (Unit {0}) → Header → Header
+withStrictLine line fig =
+    record {
+      frame = fig .frame;
+      overhead = fig .overhead;
+      interrupt = fig .interrupt;
+      framing = fig .framing;
+      strict = line;
     }
 
 -- a line that may be missing, in front of what follows it; `numbers` are those that stand on it for what it says
@@ -66,12 +84,17 @@ drawOptional word numbers (some x) rest = ended (drawForm word (numbers x)) rest
 abbrev pub oneNumber : ℕ → List ℕ
 oneNumber x = x ∷ []
 
+-- a line that says only that it stands has none
+abbrev pub noNumber : Unit {0} → List ℕ
+noNumber x = []
+
 unfoldable pub draw : Header → Hub → Lines → Lines
 draw fig h rest =
     ended (drawForm frame-word (fig .frame ∷ []))
     (ended (drawForm overhead-word (fig .overhead ∷ []))
     (ended (drawForm interrupt-word (fig .interrupt ∷ []))
-    (drawOptional framing-word oneNumber (fig .framing) (ended hub-word (drawHub h rest)))))
+    (drawOptional framing-word oneNumber (fig .framing)
+    (drawOptional strict-word noNumber (fig .strict) (ended hub-word (drawHub h rest))))))
 
 -- how many ports a hub has
 unfoldable pub portsOf : Hub → ℕ

@@ -11,8 +11,8 @@ use Rattle.rules.specs.Plan.{Plan}
 use Rattle.rules.specs.Drawn.{Within}
 use Rattle.rules.specs.Call.{Class, normal, high, Call, ask, off, reserve, until, step, time, taken, grant, rest}
 use Rattle.rules.specs.Core as rules
-use Rattle.rules.specs.Core.{Core, standing, bitsOf, before, advance, countsIn, due, sought}
-use Rattle.rules.specs.Rows.{Row, Verdict, accept, refuse, firstRow, row12, rows, withRequest, change}
+use Rattle.rules.specs.Core.{Core, Share, standing, bitsOf, before, advance, countsIn, due, sought}
+use Rattle.rules.specs.Rows.{Row, Verdict, accept, refuse, firstRow, row12, rows, withRequest, putUp, change}
 use Rattle.rules.specs.Machine.{Machine, Hub, Outcome, Turn, granting, grantTo, handled, stepAt, accepted, decided, perform}
 use Rattle.rules.specs.Control as hubs
 use Rattle.rules.specs.Control.{Control, control}
@@ -31,7 +31,7 @@ use Rattle.cells.specs.declared.Due.the-variants.{At, Never}
 use Rattle.cells.specs.declared.Sought.{Sought}
 use Rattle.cells.specs.declared.Sought.the-variants as seek
 use Rattle.cells.specs.declared.Step.the-variants.{Rest}
-use Rattle.cells.specs.Layout.{requestCell, classOf, requestOf, requestCode}
+use Rattle.cells.specs.Layout.{requestCell, forceCell, classOf, shareOf, requestOf, requestCode}
 use Rattle.cells.specs.Decode.{planIn, coreOf, controlOf, hubOf}
 use Rattle.cells.specs.Masks.{putRequest, grantNode}
 use Rattle.cells.specs.Frames.{advanceBy}
@@ -39,7 +39,7 @@ use Rattle.cells.specs.Instants.{dueBy, dueIn, soughtBy, soughtIn}
 use Rattle.cells.specs.Turns as turns
 use Rattle.cells.specs.Calls.{row12By, rowsBy, numberOf, rowBy, changeBy, eventBy, bitsAt, busyUntil, classNumber, classNumbered, grantBy, handledBy, stepDue, stepBy, stepAnswer, Performed, eventLeft, performBy}
 use Rattle.refinement.specs.Kept.{Ready, Kept, countsOf}
-use Rattle.refinement.proofs.Changed.{kept-but, kept-right}
+use Rattle.refinement.proofs.Changed.{within-node, kept-but, kept-right}
 use Rattle.refinement.proofs.Requested.{Left, own-field, request-left}
 use Rattle.refinement.proofs.Granted.{grantedCore, grant-left}
 use Rattle.refinement.proofs.Headed.{headed, busy-left}
@@ -112,11 +112,19 @@ module _ (P : List ℕ) (R : Ready P) (s : List ℕ) (K : Kept (planIn P) s) whe
       read normal = code-read b u .0
       read high = code-read b u .1
 
+  share-in-force : (k : ℕ) → Within (planIn P .nodes) k → coreOf (planIn P) s .force k ≡ shareOf (getD s (forceCell k) 0)
+  unfolding coreOf
+  share-in-force k w = rw (within-node (planIn P) k w)
+
   -- the event's change, the clock having come to its time
   change-left : (a : Core) (call : Call) → Acceptable (planIn P) a call
       → Left (planIn P) (changeBy P call s) (change call (coreOf (planIn P) s)) (controlOf (planIn P) s)
   unfolding changeBy
-  change-left a call (asks c t k b x) = asked-left c k b (x .node) (omega (arith, x .long, longest-up (planIn P .framing)))
+  change-left a call (asks c t k b x) =
+      subst
+      (λ (r : Share). Left (planIn P) (changeBy P (ask c t k b) s) (withRequest k (standing (putUp r c) b) (coreOf (planIn P) s)) (controlOf (planIn P) s))
+      (sym (share-in-force k (x .node)))
+      (asked-left (putUp (shareOf (getD s (forceCell k) 0)) c) k b (x .node) (omega (arith, x .long, longest-up (planIn P .framing))))
   change-left a call (leaves t k o w) =
       request-left P R s (K .size) k w (kept-right (planIn P) k s K) (kept-but (planIn P) s K) 0
   change-left a call (reserves t k n b x) = reserve-left P R s K k (x .node) n b (small-range (x .range))

@@ -52,6 +52,7 @@ bounded-same p few =
       overhead = p .overhead;
       interrupt = p .interrupt;
       framing = p .framing;
+      strict = p .strict;
       nodes = e i;
       hubs = p .hubs;
       ports = p .ports;

@@ -2,6 +2,7 @@
 -- as they may within a frame, and an ask that writes as many as it may where a frame starts.
 use Prim.Native.Nat.{ℕ}
 use mathlib.Core.Path.{_≡_}
+use mathlib.Core.Bool.{true}
 use mathlib.Core.List.{List, [], _∷_, map, reverse}
 use Rattle.rules.specs.Call.{normal, high, Call, ask, off, reserve, step, Answer, taken, grant}
 use Rattle.rules.specs.Run.{Entry}
@@ -16,7 +17,7 @@ use Rattle.refinement.specs.Written.{mostBy, mostAtStart}
 -- the figures of document 01's example; hub 1 has hub 2, and hub 2 has node 1
 abbrev pub two-hubs : List ℕ
 two-hubs =
-    putFigures (record { frame = 100000; overhead = 1000; interrupt = 13000; framing = 3 }) 1 2
+    putFigures (record { frame = 100000; overhead = 1000; interrupt = 13000; framing = 3; strict = true }) 1 2
     (putPorts 1 1 (putPorts 2 1 (putNode 2 1 1 (putHub 1 1 2 2 (putRoot noTable)))))
 
 -- of each call of a list, the latest first: a number told by the call and the cells before it

@@ -1,7 +1,7 @@
 -- Row 16, by the cell of the reservation in force at a time.
 use Prim.Native.Nat.{ℕ, _/_, _%_}
 use mathlib.Core.Path.{_≡_}
-use mathlib.Core.Bool.{Bool, true, _||_}
+use mathlib.Core.Bool.{Bool, true}
 use mathlib.Core.List.{List}
 use lib.Dec.{ltb, eqb}
 use lib.ListN.{getD}
@@ -33,5 +33,5 @@ module _ (p : Plan) (s : List ℕ) (k : ℕ) (w : Within (p .nodes) k) where
       go (no′ e) = rw (e, is-node p k w)
 
   pub row16-cell : (isHigh : Bool) (t b x : ℕ) → isHigh ≡ true → x ≡ forceAt t
-      → (eqb (x / half) 0 || ltb (x % half) b) ≡ row16 p (coreOf p s) (classOf isHigh) t k b .applies
+      → (if eqb (x / half) 0 then p .strict else ltb (x % half) b) ≡ row16 p (coreOf p s) (classOf isHigh) t k b .applies
   row16-cell isHigh t b x h e = rw (h, in-force t, e)

@@ -85,7 +85,7 @@ fn share_at(p: &Plan, s: &Cascade, t: u64, k: u32) -> u32
     s[cells::FORCE + at]
 }
 
-// 16, of a request of a node of the plan.
+// 16, of a request of a node of the plan: a high one in a strict plan with n = 0 in force, or longer than the b in force.
 fn unreserved(p: &Plan, s: &Cascade, high: bool, t: u64, k: u32, b: u64) -> bool
     requires { ⌜ Within (planIn (now p) .nodes) k ⌝ }
     ensures { λ r. ⌜ r ≡ row16 (planIn (now (p .entry))) (coreOf (planIn (now (p .entry))) (now (s .entry))) (classOf high) t k b .applies ⌝ }
@@ -93,7 +93,7 @@ fn unreserved(p: &Plan, s: &Cascade, high: bool, t: u64, k: u32, b: u64) -> bool
     if high {
         let share = share_at(p, s, t, k);
         if share < cells::HALF {
-            return true;
+            return p[plan::STRICT] != 0;
         }
         return ((share % cells::HALF) as u64) < b;
     }

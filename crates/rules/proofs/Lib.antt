@@ -4,6 +4,7 @@
 -- whatever machine gives the turns. Control shows that hub-by-hub control follows the flat rule; Travel and Looks go
 -- on from there. Demand3 and Promised are proved over Flat and Core, of every machine that follows the flat rule,
 -- and AnyMoment uses some of Demand3; what they say of hub-by-hub control then is one citation of Control.
+-- Strict compares runs under the two defaults of request 8, and cites Demand3 and AnyMoment for both.
 pub mod Laws
 pub mod Flat
 pub mod Core
@@ -13,3 +14,4 @@ pub mod Looks
 pub mod Demand3
 pub mod AnyMoment
 pub mod Promised
+pub mod Strict

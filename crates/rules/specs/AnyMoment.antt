@@ -40,8 +40,8 @@ unfoldable pub firstGrant : ℕ → List Entry → Grant
 firstGrant k [] = none
 firstGrant k (e ∷ since) = orElse (firstGrant k since) (grantBy k (e .call) (e .answer))
 
--- whether an entry breaks the stand of k's high request: an accepted normal or
--- off of k. Behind an accepted high of k a high request of k still stands
+-- whether an entry breaks the stand of k's high request: an accepted normal or off of k. Behind an accepted high of k
+-- a high request of k still stands: where no change comes into force, k has something reserved, and none is taken as normal
 abbrev pub breaks : ℕ → Call → Answer → Bool
 breaks k (ask normal t j b) taken = eqb j k
 breaks k (ask high t j b) taken = false

@@ -17,6 +17,7 @@ pub mod Words
 pub mod Demand
 pub mod AnyMoment
 pub mod Promises
+pub mod Strict
 pub mod Sample
 pub mod Slips
 pub mod TurningSlips

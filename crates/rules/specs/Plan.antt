@@ -1,5 +1,6 @@
 -- "The plan": its figures and its tree of hubs, as tables. Nodes, hubs and ports are numbered from 1; hub 1 is the root.
 use Prim.Native.Nat.{ℕ, zero, suc, max}
+use mathlib.Core.Bool.{Bool}
 use lib.Dec.{eqb}
 use Rattle.rules.specs.Choice.{if_then_else_}
 
@@ -17,6 +18,8 @@ pub record Plan : Type 0 where
   pub interrupt : ℕ
   -- the framing of its packets: 5 for token ring's, 3 for Ethernet's
   pub framing : ℕ
+  -- whether a high request of a node with nothing reserved in force is refused; else it is taken as a normal one
+  pub strict : Bool
   -- N and H, how many nodes and hubs there are
   pub nodes : ℕ
   pub hubs : ℕ
@@ -51,6 +54,24 @@ longestIn framing = if eqb framing 5 then 36000 else 12000
 
 abbrev pub longest : Plan → ℕ
 longest p = longestIn (p .framing)
+
+-- a plan with the line `(strict)` and without it, and else the same
+abbrev pub withStrict : Bool → Plan → Plan
+withStrict strict p =
+    record {
+      frame = p .frame;
+      overhead = p .overhead;
+      interrupt = p .interrupt;
+      framing = p .framing;
+      strict = strict;
+      nodes = p .nodes;
+      hubs = p .hubs;
+      ports = p .ports;
+      port = p .port;
+      parent = p .parent;
+      place = p .place;
+      level = p .level;
+    }
 
 -- L, the number of levels: the greatest level among hubs 1 to H
 unfoldable pub deepest : ℕ → (ℕ → ℕ) → ℕ

@@ -7,12 +7,12 @@ use mathlib.Core.List.{List}
 use Rattle.rules.specs.Choice.{put, any}
 use Rattle.rules.specs.Plan.{Plan, shortest, longest}
 use Rattle.rules.specs.Call.{Class, high, Call, ask, off, reserve, until, step, Answer, grant, rest, quiet}
-use Rattle.rules.specs.Core.{Core, resting, busy, frameOf, advance, countsIn, counts, held, at, due, before}
+use Rattle.rules.specs.Core.{Core, Share, resting, busy, frameOf, advance, countsIn, counts, held, at, due, before}
 use Rattle.rules.specs.Drawn.{Within}
 use Rattle.rules.specs.Rows.{last-time, loads}
 use Rattle.rules.specs.Machine.{Machine, Hub, perform}
 use Rattle.rules.specs.Run.{Entry}
-use Rattle.rules.specs.Words.{reserved, Keeps}
+use Rattle.rules.specs.Words.{reserved}
 
 -- an answer that grants at s a node of 1 to N whose request counts, in the class granted, once the clock has come to s
 pub data GrantsAt (p : Plan) (core : Core) (s : ℕ) : Answer → Type 0 where
@@ -70,14 +70,18 @@ pub record OnTime (p : Plan) (s : Core) (t : ℕ) : Type 0 where
   pub late : s .clock ≤ t
   pub not-due : (d : ℕ) → due p s ≡ at d → t ≤ d
 
--- a normal or high request of a node of the plan, with its length in range; a
--- high one with n in force at t at least 1, and b at most the b in force
+-- what the reservation r in force asks of a high request: where n is at least 1, b is at most its b; and in a strict plan n is at least 1
+pub record Allows (p : Plan) (r : Share) (c : Class) (b : ℕ) : Type 0 where
+  pub fits : c ≡ high → 1 ≤ r .packets → b ≤ r .bits
+  pub some : c ≡ high → p .strict ≡ true → 1 ≤ r .packets
+
+-- a normal or high request of a node of the plan, with its length in range, that the reservation in force at t allows
 pub record Askable (p : Plan) (s : Core) (c : Class) (t k b : ℕ) : Type 0 where
   pub time : OnTime p s t
   pub node : Within (p .nodes) k
   pub short : shortest p ≤ b
   pub long : b ≤ longest p
-  pub share : c ≡ high → Keeps (advance p t s .force k) b
+  pub share : Allows p (advance p t s .force k) c b
 
 -- the length of a reserve is in range: with n = 0 instead it is 0
 pub data InRange (p : Plan) : ℕ → ℕ → Type 0 where

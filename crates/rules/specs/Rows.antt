@@ -59,13 +59,13 @@ abbrev pub row15r : Plan → ℕ → ℕ → Row
 row15r p n b =
     record { number = 15; applies = if eqb n 0 then not (eqb b 0) else (ltb b (shortest p) || ltb (longest p) b) }
 
--- 16, of a high request: n in force at t is 0, or b above the b in force
-abbrev pub unreserved : Plan → Core → Class → ℕ → ℕ → ℕ → Bool
-unreserved p s normal t k b = false
-unreserved p s high t k b = eqb (advance p t s .force k .packets) 0 || ltb (advance p t s .force k .bits) b
+-- 16, of a high request by the reservation in force at t: with n = 0 the plan is strict, else b is above the b in force
+abbrev pub unreserved : Plan → Share → Class → ℕ → Bool
+unreserved p r normal b = false
+unreserved p r high b = if eqb (r .packets) 0 then p .strict else ltb (r .bits) b
 
 abbrev pub row16 : Plan → Core → Class → ℕ → ℕ → ℕ → Row
-row16 p s c t k b = record { number = 16; applies = unreserved p s c t k b }
+row16 p s c t k b = record { number = 16; applies = unreserved p (advance p t s .force k) c b }
 
 -- 17: the frame can't hold it, by the latest accepted reservations with the new one in place of k's old
 abbrev pub row17 : Plan → Core → ℕ → Share → Row
@@ -101,9 +101,14 @@ withLatest k r s =
       granted = s .granted;
     }
 
+-- the class that an accepted event puts up, by the reservation in force: with n = 0 a high request is taken as a normal one
+abbrev pub putUp : Share → Class → Class
+putUp r normal = normal
+putUp r high = if eqb (r .packets) 0 then normal else high
+
 -- what an accepted event changes, once the clock has come to its time
 abbrev pub change : Call → Core → Core
-change (ask c t k b) s = withRequest k (standing c b) s
+change (ask c t k b) s = withRequest k (standing (putUp (s .force k) c) b) s
 change (off t k) s = withRequest k none s
 change (reserve t k n b) s = withLatest k (record { packets = n; bits = b }) s
 change (until t) s = s

@@ -1,4 +1,5 @@
--- The plan of document 01's example: hub 1 has node 1, hub 2 and node 4; hub 2 has nodes 2 and 3.
+-- The plan of document 01's example, which is strict: hub 1 has node 1, hub 2 and node 4; hub 2 has nodes 2 and 3.
+use mathlib.Core.Bool.{true}
 use mathlib.Core.List.{[], _∷_}
 use lib.ListN.{getD}
 use Rattle.rules.specs.Plan.{Plan, node, empty, hub}
@@ -10,6 +11,7 @@ plan01 =
       overhead = 1000;
       interrupt = 13000;
       framing = 3;
+      strict = true;
       nodes = 4;
       hubs = 2;
       ports = λ g. getD (0 ∷ 3 ∷ 2 ∷ []) g 0;

@@ -197,6 +197,7 @@ narrow =
       overhead = 31000;
       interrupt = 43000;
       framing = 3;
+      strict = plan01 .strict;
       nodes = plan01 .nodes;
       hubs = plan01 .hubs;
       ports = plan01 .ports;

@@ -65,6 +65,7 @@ nested =
       overhead = plan01 .overhead;
       interrupt = plan01 .interrupt;
       framing = plan01 .framing;
+      strict = plan01 .strict;
       nodes = 5;
       hubs = 3;
       ports = λ g. getD (0 ∷ 3 ∷ 3 ∷ 1 ∷ []) g 0;

@@ -86,6 +86,7 @@ pair =
       overhead = plan01 .overhead;
       interrupt = plan01 .interrupt;
       framing = plan01 .framing;
+      strict = plan01 .strict;
       nodes = 4;
       hubs = 3;
       ports = λ g. getD (0 ∷ 2 ∷ 2 ∷ 2 ∷ []) g 0;

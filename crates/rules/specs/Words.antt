@@ -50,7 +50,7 @@ unfoldable pub reserved : Plan → ℕ → ℕ → List Entry → Share
 reserved p k f [] = nothing-reserved
 reserved p k f (e ∷ past) = reservedBy (f * p .frame) k (e .call) (e .answer) (reserved p k f past)
 
--- k's request at a place: none, or its class, the time of its event and its length
+-- k's request at a place: none, or the class that its event asked for, the event's time and its length
 pub data Asked : Type 0 where
   none : Asked
   asked : Class → ℕ → ℕ → Asked

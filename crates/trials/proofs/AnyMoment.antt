@@ -7,7 +7,7 @@ use Rattle.text.specs.Form.{andThen, readSpaced, readClose, readNumbers, readBe
 use Rattle.plan_tree.specs.Kind.{kindOf}
 use Rattle.plan_tree.specs.Tables.{putEmpty, putNode, putHub, putPorts, putRoot}
 use Rattle.plan.specs.Tables.{putFigures, planOf}
-use Rattle.plan.specs.Reading.{hubLines, rootLine, framingLine, interruptLine, overheadLine, frameLine, reading}
+use Rattle.plan.specs.Reading.{hubLines, rootLine, strictLine, framingLine, interruptLine, overheadLine, frameLine, reading}
 use Rattle.plan_theory.proofs.TakenPlan.{taken-plan}
 use Rattle.rules.specs.Choice.{any, sum, first}
 use Rattle.rules.specs.Core.{advance, countsIn, counts, held, due, sought}
@@ -32,10 +32,10 @@ pub computed : Computed
 unfolding
     bytes textOf figures
     before lines digitRun keepDigit wellFormed valueFrom readRun readNumber startsWith isWord andThen readSpaced readClose readNumbers readBehind readForm
-    kindOf reading frameLine overheadLine interruptLine framingLine rootLine hubLines putRoot putNode putEmpty putHub putPorts putFigures planOf
+    kindOf reading frameLine overheadLine interruptLine framingLine strictLine rootLine hubLines putRoot putNode putEmpty putHub putPorts putFigures planOf
     any sum first advance countsIn counts held due sought below lowest walk led nearest chooseBy perform made
     clockAt reserved highGrants firstGrant keptStanding waitLimit
 computed = record { taken = refl; as-worked = (refl, refl); premises = its-request across refl refl refl refl refl }
 
 pub across-served : AcrossServed
-across-served = its-grant across (taken-plan plan01 4 2 91 12 (computed .taken) .plan) (computed .premises)
+across-served = its-grant across (taken-plan plan01 4 2 100 13 (computed .taken) .plan) (computed .premises)

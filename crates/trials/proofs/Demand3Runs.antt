@@ -13,7 +13,7 @@ use Rattle.text.specs.Form.{andThen, readSpaced, readClose, readNumbers, readBe
 use Rattle.plan_tree.specs.Kind.{kindOf}
 use Rattle.plan_tree.specs.Tables.{putEmpty, putNode, putHub, putPorts, putRoot}
 use Rattle.plan.specs.Tables.{putFigures, planOf}
-use Rattle.plan.specs.Reading.{hubLines, rootLine, framingLine, interruptLine, overheadLine, frameLine, reading}
+use Rattle.plan.specs.Reading.{hubLines, rootLine, strictLine, framingLine, interruptLine, overheadLine, frameLine, reading}
 use Rattle.plan_theory.specs.Taken.{TakenAs, TakenPlan}
 use Rattle.plan_theory.proofs.TakenPlan.{taken-plan}
 use Rattle.rules.specs.Choice.{any, sum, first}
@@ -35,7 +35,7 @@ pub runs-right : AllRight demand3-runs
 unfolding
     bytes textOf figures
     before lines digitRun keepDigit wellFormed valueFrom readRun readNumber startsWith isWord andThen readSpaced readClose readNumbers readBehind readForm
-    kindOf reading frameLine overheadLine interruptLine framingLine rootLine hubLines putRoot putNode putEmpty putHub putPorts putFigures planOf
+    kindOf reading frameLine overheadLine interruptLine framingLine strictLine rootLine hubLines putRoot putNode putEmpty putHub putPorts putFigures planOf
     any sum first advance countsIn counts held due sought below lowest walk led nearest chooseBy perform made
     clockAt reserved requestAt highGrants delayLimit isHigh unbroken nextTurns
 runs-right = record { read = refl; answered = refl; figured = refl }
@@ -71,11 +71,11 @@ pub its-claim : (x : Worked) → Drawn (planRead x) → 1 ≤ x .node → x .nod
 its-claim x drawn low up =
     control-demand3 (planRead x) drawn (reverse (map (λ (e : Entry). e .call) (x .list))) .demand (x .node) (x .frame) low up
 
-plan-taken : TakenAs plan01 4 2 91 12
+plan-taken : TakenAs plan01 4 2 100 13
 plan-taken = let e = runs-right .read in cc
 
 on-the-plan : TakenPlan (reading plan01 .tables) 4 2
-on-the-plan = taken-plan plan01 4 2 91 12 plan-taken
+on-the-plan = taken-plan plan01 4 2 100 13 plan-taken
 
 pub at-the-limit-kept : ClaimOf at-the-limit
 unfolding AllShown
@@ -90,11 +90,11 @@ over-the-start-kept =
     its-claim over-the-start (on-the-plan .plan) (omega arith) (omega (arith, on-the-plan .nodes-told)) (s .unbroken) (s .next-turns) (s .run-to)
 
 -- with framing 5, by the same theorem
-ring-taken : TakenAs ring 4 2 103 13
+ring-taken : TakenAs ring 4 2 112 14
 ring-taken = let e = runs-right .read in cc
 
 on-the-ring : TakenPlan (reading ring .tables) 4 2
-on-the-ring = taken-plan ring 4 2 103 13 ring-taken
+on-the-ring = taken-plan ring 4 2 112 14 ring-taken
 
 pub ring-at-the-limit-kept : ClaimOf ring-at-the-limit
 unfolding AllShown

@@ -8,7 +8,7 @@ use Rattle.text.specs.Form.{andThen, readSpaced, readClose, readNumbers, readBe
 use Rattle.plan_tree.specs.Kind.{kindOf}
 use Rattle.plan_tree.specs.Tables.{putEmpty, putNode, putHub, putPorts, putRoot}
 use Rattle.plan.specs.Tables.{putFigures, planOf}
-use Rattle.plan.specs.Reading.{hubLines, rootLine, framingLine, interruptLine, overheadLine, frameLine, reading}
+use Rattle.plan.specs.Reading.{hubLines, rootLine, strictLine, framingLine, interruptLine, overheadLine, frameLine, reading}
 use Rattle.rules.specs.Choice.{any, sum, first}
 use Rattle.rules.specs.Core.{advance, countsIn, counts, held, due, sought}
 use Rattle.rules.specs.Control.{below, lowest, walk, led, nearest, chooseBy, chooseFromRoot, control, fromRoot}
@@ -23,7 +23,7 @@ pub all-right : AllRight control table
 unfolding
     flatten bytes textOf table outcome
     before lines digitRun keepDigit wellFormed valueFrom readRun readNumber startsWith isWord andThen readSpaced readClose readNumbers readBehind readForm
-    kindOf reading frameLine overheadLine interruptLine framingLine rootLine hubLines putRoot putNode putEmpty putHub putPorts putFigures planOf
+    kindOf reading frameLine overheadLine interruptLine framingLine strictLine rootLine hubLines putRoot putNode putEmpty putHub putPorts putFigures planOf
     any sum first advance countsIn counts held due sought below lowest walk led nearest chooseBy perform made
 all-right = refl
 
@@ -32,6 +32,6 @@ pub from-root-right : AllRight fromRoot cases-from-root
 unfolding
     flatten bytes textOf outcome
     before lines digitRun keepDigit wellFormed valueFrom readRun readNumber startsWith isWord andThen readSpaced readClose readNumbers readBehind readForm
-    kindOf reading frameLine overheadLine interruptLine framingLine rootLine hubLines putRoot putNode putEmpty putHub putPorts putFigures planOf
+    kindOf reading frameLine overheadLine interruptLine framingLine strictLine rootLine hubLines putRoot putNode putEmpty putHub putPorts putFigures planOf
     any sum first advance countsIn counts held due sought below lowest walk chooseFromRoot perform made
 from-root-right = refl

@@ -7,7 +7,7 @@ use Rattle.text.specs.Form.{andThen, readSpaced, readClose, readNumbers, readBe
 use Rattle.plan_tree.specs.Kind.{kindOf}
 use Rattle.plan_tree.specs.Tables.{putEmpty, putNode, putHub, putPorts, putRoot}
 use Rattle.plan.specs.Tables.{putFigures, planOf}
-use Rattle.plan.specs.Reading.{hubLines, rootLine, framingLine, interruptLine, overheadLine, frameLine, reading}
+use Rattle.plan.specs.Reading.{hubLines, rootLine, strictLine, framingLine, interruptLine, overheadLine, frameLine, reading}
 use Rattle.rules.specs.Choice.{any, sum, first}
 use Rattle.rules.specs.Core.{advance, countsIn, counts, held, due, sought}
 use Rattle.rules.specs.Control.{below, lowest, walk, led, nearest, chooseBy}
@@ -23,7 +23,7 @@ pub all-taken : AllTaken
 unfolding
     bytes textOf outcome
     before lines digitRun keepDigit wellFormed valueFrom readRun readNumber startsWith isWord andThen readSpaced readClose readNumbers readBehind readForm
-    kindOf reading frameLine overheadLine interruptLine framingLine rootLine hubLines putRoot putNode putEmpty putHub putPorts putFigures planOf
+    kindOf reading frameLine overheadLine interruptLine framingLine strictLine rootLine hubLines putRoot putNode putEmpty putHub putPorts putFigures planOf
     any sum first advance countsIn counts held due sought below lowest walk led nearest chooseBy perform made
 all-taken = refl
 
@@ -31,7 +31,7 @@ pub all-as-worked : AllAsWorked
 unfolding
     bytes textOf figures
     before lines digitRun keepDigit wellFormed valueFrom readRun readNumber startsWith isWord andThen readSpaced readClose readNumbers readBehind readForm
-    kindOf reading frameLine overheadLine interruptLine framingLine rootLine hubLines putRoot putNode putEmpty putHub putPorts putFigures planOf
+    kindOf reading frameLine overheadLine interruptLine framingLine strictLine rootLine hubLines putRoot putNode putEmpty putHub putPorts putFigures planOf
     any sum first advance countsIn counts held due sought below lowest walk led nearest chooseBy perform made
     walkReturns chooseReturns returns latestNode rounds travel unbroken
 all-as-worked = refl

@@ -9,9 +9,9 @@ use Rattle.plan.specs.Reading.{reading}
 use Rattle.plan_theory.specs.Taken.{TakenAs}
 use Rattle.trials.specs.Plans.{plan01}
 
--- the text is taken, with 4 nodes and 2 hubs; it ends at byte 91, and the next line would be line 12
+-- the text is taken, with 4 nodes and 2 hubs; it ends at byte 100, and the next line would be line 13
 abbrev pub PlanTaken : Type 0
-PlanTaken = TakenAs plan01 4 2 91 12
+PlanTaken = TakenAs plan01 4 2 100 13
 
 -- a worked wait on the plan that is read
 abbrev pub onText : Worked → Worked

@@ -1,10 +1,10 @@
 -- The trial cases marked M, in document 01's words. Except M1 and M2 they use its plan.
 use Prim.Native.Nat.{ℕ}
 use mathlib.Core.List.{List, [], _∷_, _++_}
-use Rattle.rules.specs.Call.{normal, high, ask, reserve, step, taken, refused, grant, rest, quiet}
+use Rattle.rules.specs.Call.{normal, high, ask, reserve, until, step, Answer, taken, refused, grant, rest, quiet}
 use Rattle.trials.specs.Text.{textOf}
-use Rattle.trials.specs.Row.{Row, _⟶_, refusing, taking}
-use Rattle.trials.specs.Plans.{tree01, figures01, plan01, nine, short-interrupt, framed, ring, six-levels, three-levels}
+use Rattle.trials.specs.Row.{Row, _⟶_, _before_, refusing, taking, running}
+use Rattle.trials.specs.Plans.{tree01, figures01, plan01, plan01-default, nine, short-interrupt, framed, ring, six-levels, three-levels}
 
 -- M1: one hub of 9 nodes, pointer 3 (by a grant to node 2), normal from 2, 3, 5, 9: granted 3, 5, 9, 2
 abbrev pub m1 : Row
@@ -222,10 +222,70 @@ m12-elsewhere =
     ∷ refusing (textOf (figures01 ++ "(hub" ∷ "(framing 3)" ∷ "(node)" ∷ ")" ∷ [])) 5 1
     ∷ []
 
+-- M13, for request 8 of document 02: document 01's own calls without the line `(strict)`.
+-- The request that its log refuses is taken as a normal one
+abbrev pub m13-default : Row
+m13-default =
+    running plan01-default 4 2
+    ([] before reserve 0 3 2 4000 ⟶ taken
+    ∷ [] before ask normal 0 1 12000 ⟶ taken
+    ∷ [] before ask normal 0 4 6000 ⟶ taken
+    ∷ [] before ask high 0 3 4000 ⟶ taken
+    ∷ (grant 0 1 normal 13000 0 ∷ grant 13000 3 normal 18000 1 ∷ grant 18000 4 normal 25000 1 ∷ rest 25000 0 ∷ []) before ask normal 99000 2 12000 ⟶ taken
+    ∷ (grant 99000 2 normal 112000 1 ∷ []) before ask high 100000 3 4000 ⟶ taken
+    ∷ [] before ask normal 100000 1 1000 ⟶ taken
+    ∷ (grant 112000 3 high 117000 2 ∷ grant 117000 1 normal 119000 1 ∷ rest 119000 0 ∷ []) before until 200000 ⟶ taken
+    ∷ [])
+
+-- n in force is that at the event's time, here a frame later than the clock: nothing in frames 0 and 2, a packet of 1,000 in frame 1;
+-- 15 comes before. What is said of high requests where nothing is in force, and the turns of the second one
+abbrev pub m13-in-force : List ℕ → Answer → List Answer → Row
+m13-in-force plan unreserved turns =
+    running plan 4 2
+    ([] before reserve 0 3 1 1000 ⟶ taken
+    ∷ [] before ask high 0 3 511 ⟶ refused 15
+    ∷ [] before ask high 0 3 12001 ⟶ refused 15
+    ∷ [] before ask high 100000 3 1001 ⟶ refused 16
+    ∷ [] before ask high 100000 3 1000 ⟶ taken
+    ∷ (grant 100000 3 high 102000 1 ∷ rest 102000 1 ∷ []) before reserve 150000 3 0 0 ⟶ taken
+    ∷ [] before ask high 200000 3 1000 ⟶ unreserved
+    ∷ turns before until 250000 ⟶ taken
+    ∷ [])
+
+-- a request taken as normal stays so when a reservation comes into force, and its grant is a normal one: the share is whole
+abbrev pub m13-stays-normal : Row
+m13-stays-normal =
+    running plan01-default 4 2
+    ([] before reserve 0 3 1 1000 ⟶ taken
+    ∷ [] before ask normal 99000 1 12000 ⟶ taken
+    ∷ (grant 99000 1 normal 112000 0 ∷ []) before ask high 99999 3 1000 ⟶ taken
+    ∷ (grant 112000 3 normal 114000 1 ∷ []) before ask high 112001 3 1000 ⟶ taken
+    ∷ (grant 114000 3 high 116000 2 ∷ rest 116000 1 ∷ []) before until 200000 ⟶ taken
+    ∷ [])
+
+abbrev pub m13 : List Row
+m13 =
+    m13-default ∷ m13-stays-normal ∷ m13-in-force plan01 (refused 16) []
+    ∷ m13-in-force plan01-default taken (grant 200000 3 normal 202000 1 ∷ rest 202000 1 ∷ []) ∷ []
+
+-- the line stands just before the root's `(hub`, behind any framing's; anywhere else, twice or with a number it is 1
+abbrev pub m13-lines : List Row
+m13-lines =
+    taking (textOf (figures01 ++ "(framing 3)" ∷ "(strict)" ∷ tree01)) 4 2 (ask high 0 1 512 ⟶ refused 16 ∷ [])
+    ∷ taking (textOf (figures01 ++ "(framing 3)" ∷ tree01)) 4 2 (ask high 0 1 512 ⟶ taken ∷ [])
+    ∷ refusing (textOf (figures01 ++ "(strict)" ∷ "(framing 3)" ∷ tree01)) 5 1
+    ∷ refusing (textOf (figures01 ++ "(strict)" ∷ "(strict)" ∷ tree01)) 5 1
+    ∷ refusing (textOf (figures01 ++ "(strict 1)" ∷ tree01)) 4 1
+    ∷ refusing (textOf (figures01 ++ "(strict )" ∷ tree01)) 4 1
+    ∷ refusing (textOf ("(strict)" ∷ figures01 ++ tree01)) 1 1
+    ∷ refusing (textOf (figures01 ++ "(hub" ∷ "(strict)" ∷ "(node)" ∷ ")" ∷ [])) 5 1
+    ∷ refusing (textOf (figures01 ++ "(strict)" ∷ [])) 5 1
+    ∷ []
+
 abbrev pub cases : List Row
 cases =
     m1 ∷ m2 ∷ m3 ∷ m4 ∷ m5-granted ∷ m5-refused ∷ m6 ∷ m7-normal ∷ m7-reserve ∷ m7-high ∷ m8 ∷ m9 ∷ m10-interrupt
-    ∷ m10-levels ∷ m11 ∷ m12-lengths ∷ m12-three ∷ m12-refused ++ m12-elsewhere
+    ∷ m10-levels ∷ m11 ∷ m12-lengths ∷ m12-three ∷ m12-refused ++ m12-elsewhere ++ m13 ++ m13-lines
 
 -- cases by the old rule 2: M4's counts are the same by both
 abbrev pub cases-from-root : List Row

@@ -69,9 +69,9 @@ module _ (x : Worked) where
         in-time = inTime planRead (x .node) (x .frame) whole;
       }
 
--- the text is taken, with 4 nodes and 2 hubs; it ends at byte 91, and the next line would be line 12
+-- the text is taken, with 4 nodes and 2 hubs; it ends at byte 100, and the next line would be line 13
 abbrev pub on01 : ℕ → ℕ → List Entry → Figures → Worked
-on01 k f list expected = record { text = plan01; read = Taken 4 2 91 12; node = k; frame = f; list = list; expected = expected }
+on01 k f list expected = record { text = plan01; read = Taken 4 2 100 13; node = k; frame = f; list = list; expected = expected }
 
 -- Node 4 has two packets of 512; nodes 1, 2 and 3 have three of 4,000, one of 3,000 and two of 2,000. Its limit
 -- in frame 1 is 100,000 + 13,000 + 2 × 1,512 + 2 × 5,000 + 1 × 4,000 + 2 × 3,000 = 136,024
@@ -218,7 +218,7 @@ abbrev pub ring-at-the-limit : Worked
 ring-at-the-limit =
     record {
       text = ring;
-      read = Taken 4 2 103 13;
+      read = Taken 4 2 112 14;
       node = 4;
       frame = 1;
       list = reserves ++ first-round 36000 200000 237000 400000 ++ second-round 237000 400000 ++ last-turns 237000 400000;

@@ -12,8 +12,13 @@ tree01 = "(hub" ∷ "(node)" ∷ "(hub" ∷ "(node)" ∷ "(node)" ∷ ")" ∷ "(
 abbrev pub figures01 : List String
 figures01 = "(frame 100000)" ∷ "(overhead 1000)" ∷ "(interrupt 13000)" ∷ []
 
+-- its plan is strict
 abbrev pub plan01 : List ℕ
-plan01 = textOf (figures01 ++ tree01)
+plan01 = textOf (figures01 ++ "(strict)" ∷ tree01)
+
+-- and without the line
+abbrev pub plan01-default : List ℕ
+plan01-default = textOf (figures01 ++ tree01)
 
 -- one hub of 9 nodes
 abbrev pub nine : List ℕ
@@ -30,9 +35,9 @@ short-interrupt = textOf ("(frame 100000)" ∷ "(overhead 1000)" ∷ "(interrupt
 abbrev pub framed : String → String → List ℕ
 framed interrupt framing = textOf ("(frame 200000)" ∷ "(overhead 1000)" ∷ interrupt ∷ framing ∷ tree01)
 
--- token ring frames: D is 36,000 + O
+-- token ring frames, strict: D is 36,000 + O
 abbrev pub ring : List ℕ
-ring = framed "(interrupt 37000)" "(framing 5)"
+ring = textOf ("(frame 200000)" ∷ "(overhead 1000)" ∷ "(interrupt 37000)" ∷ "(framing 5)" ∷ "(strict)" ∷ tree01)
 
 -- six levels: the hub of level 6 stands at line 9
 abbrev pub six-levels : List ℕ

@@ -11,9 +11,9 @@ use Rattle.trials.specs.Text.{textOf}
 use Rattle.trials.specs.Row.{Row, answered, AllRight}
 use Rattle.trials.specs.Plans.{figures01, plan01}
 
--- hub 1 has node 1, hub 2 and node 5, hub 2 has node 2, hub 3 and node 4, hub 3 has node 3
+-- strict; hub 1 has node 1, hub 2 and node 5, hub 2 has node 2, hub 3 and node 4, hub 3 has node 3
 abbrev pub nested : List ℕ
-nested = textOf (figures01 ++ "(hub" ∷ "(node)" ∷ "(hub" ∷ "(node)" ∷ "(hub" ∷ "(node)" ∷ ")" ∷ "(node)" ∷ ")" ∷ "(node)" ∷ ")" ∷ [])
+nested = textOf (figures01 ++ "(strict)" ∷ "(hub" ∷ "(node)" ∷ "(hub" ∷ "(node)" ∷ "(hub" ∷ "(node)" ∷ ")" ∷ "(node)" ∷ ")" ∷ "(node)" ∷ ")" ∷ [])
 
 -- a worked run, and the text of its plan with its numbers of nodes and hubs
 pub record TextRun : Type 0 where

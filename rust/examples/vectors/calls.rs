@@ -101,6 +101,7 @@ plan
 (frame 100000)
 (overhead 1000)
 (interrupt 13000)
+(strict)
 (hub
 (node)
 (hub
@@ -148,10 +149,10 @@ until 200000 = 0
 
     #[test]
     fn another_answer_is_told_with_its_line() {
-        let words = "line 21: step 99000 = grant 0 1 1 13000 0, not grant 0 1 1 13001 0";
+        let words = "line 22: step 99000 = grant 0 1 1 13000 0, not grant 0 1 1 13001 0";
         assert_eq!(changed("= grant 0 1 1 13000 0", "= grant 0 1 1 13001 0"), [words]);
-        assert_eq!(changed("3 4000 = 16", "3 4000 = 0"), ["line 19: high 0 3 4000 = 16, not 0"]);
-        assert_eq!(changed("= quiet", "= rest 20000 0"), ["line 24: step 99000 = quiet, not rest 20000 0"]);
+        assert_eq!(changed("3 4000 = 16", "3 4000 = 0"), ["line 20: high 0 3 4000 = 16, not 0"]);
+        assert_eq!(changed("= quiet", "= rest 20000 0"), ["line 25: step 99000 = quiet, not rest 20000 0"]);
         // A number more or less is another answer.
         assert_eq!(changed("13000 0\n", "13000 0 0\n").len(), 1);
         assert_eq!(changed("rest 20000 0", "rest 20000").len(), 1);
@@ -163,10 +164,10 @@ until 200000 = 0
             ["train 0 1 2 0 = 0", "normal 0 1 = 0", "step = quiet", "step x = quiet", "steps 5 = quiet"]
         {
             let call = line.split(" = ").next().unwrap();
-            let expected = [format!("line 16: no call that is known here: {call}")];
+            let expected = [format!("line 17: no call that is known here: {call}")];
             assert_eq!(changed("reserve 0 3", &format!("{line}\nreserve 0 3")), expected);
         }
-        let line = ["line 16: neither a call nor a plan"];
+        let line = ["line 17: neither a call nor a plan"];
         assert_eq!(changed("reserve 0 3", "until 5\nreserve 0 3"), line);
     }
 

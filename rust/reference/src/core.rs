@@ -108,6 +108,7 @@ pub struct Core<M> {
     interrupt: u64,
     /// The plan's longest packet.
     longest: u64,
+    strict: bool,
     /// "The latest time of an accepted event or a handled instant, at first 0."
     clock: u64,
     /// The end until which the line is busy, "until that end is handled".
@@ -125,6 +126,7 @@ impl<M: Turns> Core<M> {
             overhead: plan.overhead,
             interrupt: plan.interrupt,
             longest: plan.longest_packet(),
+            strict: plan.strict,
             clock: 0,
             line: None,
             nodes: vec![Node::default(); plan.nodes],
@@ -231,14 +233,15 @@ impl<M: Turns> Core<M> {
         Ok(())
     }
 
-    /// `(high t k b)`: the same in class high.
+    /// `(high t k b)`: the same in the class that [`class_put_up`] gives.
     pub fn high(&mut self, t: u64, k: u64, b: u64) -> Result<(), Row> {
         self.rows_11_12(t)?;
         let k = self.row_13(k)?;
         self.row_15(b)?;
-        self.row_16(t, k, b)?;
+        let in_force = self.in_force_at(t, k);
+        let class = class_put_up(self.strict, in_force.n, in_force.b, b)?;
         self.move_clock(t);
-        self.nodes[k].request = Some(Request { class: Class::High, bits: b });
+        self.nodes[k].request = Some(Request { class, bits: b });
         Ok(())
     }
 
@@ -302,13 +305,15 @@ impl<M: Turns> Core<M> {
         refuse(15, !(SHORTEST_PACKET..=self.longest).contains(&b))
     }
 
-    /// "n in force at t is 0, or b above the b in force." The frame of t may be
-    /// behind the clock's; the latest reservations are in force there.
-    fn row_16(&self, t: u64, k: usize, b: u64) -> Result<(), Row> {
-        let node = &self.nodes[k];
+    /// "n in force at t": the frame of t may be behind the clock's, and the latest
+    /// reservations are in force there.
+    fn in_force_at(&self, t: u64, k: usize) -> Reservation {
         let later = self.frame_at(t) > self.frame_at(self.clock);
-        let in_force = if later { node.latest } else { node.in_force };
-        refuse(16, in_force.n == 0 || b > in_force.b)
+        if later {
+            self.nodes[k].latest
+        } else {
+            self.nodes[k].in_force
+        }
     }
 
     /// "With c = b + O for each reservation, one is granted if D plus the sum of
@@ -322,6 +327,18 @@ impl<M: Turns> Core<M> {
         }
         refuse(17, sum > self.frame)
     }
+}
+
+/// The class that an accepted high event of b bits puts up, by its node's n and
+/// longest packet in force at its time, or row 16: "n in force at t is 0, or b
+/// above the b in force". By slip 8 of document 02 "a high request from a node with
+/// n = 0 in force is taken as normal", unless the plan is strict.
+pub fn class_put_up(strict: bool, n: u64, longest: u64, b: u64) -> Result<Class, Row> {
+    if n == 0 && !strict {
+        return Ok(Class::Normal);
+    }
+    refuse(16, n == 0 || b > longest)?;
+    Ok(Class::High)
 }
 
 fn refuse(row: Row, condition: bool) -> Result<(), Row> {

@@ -57,6 +57,9 @@ struct Node {
     /// where it is.
     bits: u64,
     since: u64,
+    /// The call that moves the clock puts up another: a start between the two makes
+    /// the earlier one normal at no place.
+    renewed: bool,
     /// High grants in the frame, and the end of the nth.
     grants: u64,
     end: Option<u64>,
@@ -136,6 +139,9 @@ impl Watch {
             Answer::Refused(_) => {}
             Answer::Quiet => self.quiet = Some(call.time()),
             Answer::Taken => {
+                if let Call::High { k, .. } = call {
+                    self.nodes[k as usize - 1].renewed = true;
+                }
                 self.move_clock(call.time());
                 self.event(call);
             }
@@ -145,25 +151,29 @@ impl Watch {
             }
             Answer::Grant { time, node, class, end, .. } => {
                 self.turn(time);
-                let k = node as usize - 1;
-                let Node { high, since, .. } = self.nodes[k];
-                self.move_clock(time);
-                let start = self.start();
-                let node = &mut self.nodes[k];
-                // "Unless an accepted off of k or a grant to k came since."
-                node.lower();
-                if class == Class::High {
-                    node.grants += 1;
-                    if node.grants == 1 {
-                        // "At some place with the clock at most f × T, before any
-                        // high grant of k in f, its request is high, and so it is
-                        // at each later place before the first such grant."
-                        node.unbroken = high && since <= start;
-                    }
-                    if node.grants == node.in_force.n {
-                        node.end = Some(end);
-                    }
-                }
+                self.grant(time, node as usize - 1, class, end);
+            }
+        }
+    }
+
+    /// A grant to the node in this place.
+    fn grant(&mut self, time: u64, k: usize, class: Class, end: u64) {
+        let Node { high, since, .. } = self.nodes[k];
+        self.move_clock(time);
+        let start = self.start();
+        let node = &mut self.nodes[k];
+        // "Unless an accepted off of k or a grant to k came since."
+        node.lower();
+        if class == Class::High {
+            node.grants += 1;
+            if node.grants == 1 {
+                // "At some place with the clock at most f × T, before any high
+                // grant of k in f, its request is high, and so it is at each later
+                // place before the first such grant."
+                node.unbroken = high && since <= start;
+            }
+            if node.grants == node.in_force.n {
+                node.end = Some(end);
             }
         }
     }
@@ -212,7 +222,7 @@ impl Watch {
         match call {
             Call::Normal { k, .. } | Call::Off { k, .. } => self.nodes[k as usize - 1].lower(),
             // "It is high if a high event put it up while k's n in force was at
-            // least 1."
+            // least 1." One that slip 8 takes as normal was put up while it was 0.
             Call::High { k, b, .. } => {
                 let node = &mut self.nodes[k as usize - 1];
                 if node.in_force.n == 0 {
@@ -220,7 +230,7 @@ impl Watch {
                 } else if !node.high {
                     (node.high, node.since) = (true, clock);
                 }
-                node.bits = b;
+                (node.bits, node.renewed) = (b, false);
             }
             Call::Reserve { k, n, b, .. } => self.nodes[k as usize - 1].latest = Reservation { n, b },
             Call::Until { .. } | Call::Step { .. } => {}
@@ -261,7 +271,8 @@ impl Watch {
             node.in_force = node.latest;
             *node = Node { grants: 0, end: None, unbroken: false, turn_lost: false, ..*node };
             // "No frame start since, up to the clock, made it normal."
-            if node.in_force.n == 0 || node.bits > node.in_force.b {
+            let made_normal = node.in_force.n == 0 || node.bits > node.in_force.b;
+            if made_normal && !node.renewed {
                 node.lower();
             }
         }

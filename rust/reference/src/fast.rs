@@ -3,7 +3,7 @@
 //! over all nodes, and it copies nothing where no reservation has changed.
 //! Answers are those of [`crate::flat`], with 0 moves.
 
-use crate::core::{Class, LAST_TIME, MOST_PACKETS, SHORTEST_PACKET};
+use crate::core::{class_put_up, Class, LAST_TIME, MOST_PACKETS, SHORTEST_PACKET};
 use crate::hub::{Answer, Call, Calls};
 use crate::plan::Plan;
 
@@ -72,6 +72,7 @@ pub struct Fast {
     overhead: u64,
     /// The plan's longest packet; its bits and a request's fit 16.
     longest: u64,
+    strict: bool,
     /// T - D, what the reservations may fill.
     room: u64,
     /// Their sum of n × c, at most `room`.
@@ -109,6 +110,7 @@ impl Fast {
             frame: plan.frame,
             overhead: plan.overhead,
             longest: plan.longest_packet(),
+            strict: plan.strict,
             room: plan.frame - plan.interrupt,
             filled: 0,
             nodes: plan.nodes as u64,
@@ -236,9 +238,7 @@ impl Fast {
         let k = self.row_13(k)?;
         self.row_15(b)?;
         self.move_clock(t);
-        self.stand(k, b);
-        self.high.drop(k);
-        self.normal.put(k);
+        self.stand(k, b, Class::Normal);
         Ok(())
     }
 
@@ -249,21 +249,24 @@ impl Fast {
         self.row_15(b)?;
         let reservations = if t < self.next_start { &self.in_force } else { &self.latest };
         let place = usize::from(k);
-        if reservations.n[place] == 0 || b > u64::from(reservations.b[place]) {
-            return Err(16);
-        }
+        let (n, longest) = (u64::from(reservations.n[place]), u64::from(reservations.b[place]));
+        let class = class_put_up(self.strict, n, longest, b)?;
         self.move_clock(t);
-        self.stand(k, b);
-        self.normal.drop(k);
-        self.high.put(k);
+        self.stand(k, b, class);
         Ok(())
     }
 
     /// k's request stands with these bits, in place of any earlier one.
     #[inline]
-    fn stand(&mut self, k: u8, b: u64) {
+    fn stand(&mut self, k: u8, b: u64, class: Class) {
         self.standing += u32::from(!self.stands(k));
         self.bits[usize::from(k)] = b as u16;
+        let (of, other) = match class {
+            Class::Normal => (&mut self.normal, &mut self.high),
+            Class::High => (&mut self.high, &mut self.normal),
+        };
+        of.put(k);
+        other.drop(k);
     }
 
     #[inline]

@@ -1,5 +1,5 @@
-//! The plan: three figures, perhaps a framing, and a tree of hubs, read from a
-//! text and drawn.
+//! The plan: three figures, perhaps a framing, whether it is strict, and a tree
+//! of hubs, read from a text and drawn.
 
 use crate::text::{Line, Lines};
 use std::ops::RangeInclusive;
@@ -90,6 +90,9 @@ pub struct Plan {
     pub interrupt: u64,
     /// What the framing line says; none where the plan doesn't have the line.
     pub framing_line: Option<Framing>,
+    /// Whether the plan has the line `(strict)` (slip 8 of document 02), which
+    /// "keeps the refusal" of unreserved high requests.
+    pub strict: bool,
     /// N, the number of nodes.
     pub nodes: usize,
     /// The hubs; hub h is `hubs[h - 1]`.
@@ -101,10 +104,11 @@ pub struct Plan {
 pub struct Passed;
 
 impl Plan {
-    /// A plan without a framing line, and its root, which has no port yet.
+    /// A plan without a framing line and not strict, and its root, which has no
+    /// port yet.
     pub fn new(frame: u64, overhead: u64, interrupt: u64) -> Plan {
         let root = Hub { ports: Vec::new(), parent: None, level: 1 };
-        Plan { frame, overhead, interrupt, framing_line: None, nodes: 0, hubs: vec![root] }
+        Plan { frame, overhead, interrupt, framing_line: None, strict: false, nodes: 0, hubs: vec![root] }
     }
 
     /// The plan's framing: "without it, 3 is meant".
@@ -223,8 +227,8 @@ pub fn read(text: &[u8]) -> Result<Taken, Refused> {
 }
 
 /// The lines down to the root's `(hub`: "First `(frame T)`, then `(overhead O)`,
-/// then `(interrupt D)`, then one hub", and by slip 3 perhaps a framing line "as
-/// its fourth line".
+/// then `(interrupt D)`, then one hub", by slip 3 perhaps a framing line "as its
+/// fourth line", and by slip 8 perhaps `(strict)` "just before the root hub".
 fn header(lines: &mut Lines) -> Result<Plan, Refused> {
     let frame = figure(lines, "frame", FRAMES)?;
     let overhead = figure(lines, "overhead", OVERHEADS)?;
@@ -235,6 +239,11 @@ fn header(lines: &mut Lines) -> Result<Plan, Refused> {
     let mut line = next(lines)?;
     if let Some([number]) = line.form("framing") {
         plan.framing_line = Some(framing(&plan, line.number, number)?);
+        line = next(lines)?;
+    }
+    // It "goes behind any framing line", so none may follow it.
+    if line.is(b"(strict)") {
+        plan.strict = true;
         line = next(lines)?;
     }
     if !line.is(b"(hub") {
@@ -276,6 +285,9 @@ pub fn draw(plan: &Plan) -> String {
         format!("(frame {})\n(overhead {})\n(interrupt {})\n", plan.frame, plan.overhead, plan.interrupt);
     if let Some(framing) = plan.framing_line {
         text.push_str(&format!("(framing {})\n", framing.number()));
+    }
+    if plan.strict {
+        text.push_str("(strict)\n");
     }
     draw_hub(plan, ROOT, &mut text);
     text

@@ -1,9 +1,9 @@
-//! Demand 3 on random lists over plans of both framings, and the watch against
-//! document 01's words taken literally.
+//! Demand 3 on random lists over plans of both framings, strict and not, and the
+//! watch against document 01's words taken literally.
 
 mod common;
 
-use common::{flat, framed, plan, Lowest};
+use common::{by_default, flat, framed, grant, plan, Lowest, PLAN};
 use reference::core::Class;
 use reference::demand3::{measure, Held, Watch};
 use reference::fast::Fast;
@@ -205,6 +205,11 @@ fn hub(which: u64, plan: &Plan) -> Box<dyn Calls> {
     }
 }
 
+/// A plan's place in counts by framing and by whether it is strict.
+fn kind(plan: &Plan) -> usize {
+    2 * plan.framing() as usize + usize::from(plan.strict)
+}
+
 /// A list over few frames, since the words look at each.
 fn short_list(plan: &Plan, random: &mut Random, hub: impl Fn() -> Box<dyn Calls>) -> Vec<(Call, Answer)> {
     loop {
@@ -218,8 +223,8 @@ fn short_list(plan: &Plan, random: &mut Random, hub: impl Fn() -> Box<dyn Calls>
 
 #[test]
 fn the_watch_finds_what_the_words_say() {
-    let (mut held, mut broken, mut without) = ([0; 2], 0, 0);
-    for seed in 0..600 {
+    let (mut held, mut broken, mut without) = ([0; 4], 0, 0);
+    for seed in 0..2_000 {
         let mut random = Random::new(seed);
         let plan = small(&mut random);
         let which = if seed % 3 < 2 { seed % 3 } else { seed };
@@ -238,7 +243,7 @@ fn the_watch_finds_what_the_words_say() {
                 let mut found = measure(&plan, &list);
                 found.sort_by_key(|held| (held.node, held.frame));
                 assert_eq!(found, Words { plan: &plan, list: &list }.all(), "seed {seed}, length {length}");
-                held[plan.framing() as usize] += found.len();
+                held[kind(&plan)] += found.len();
                 broken += found.iter().filter(|held| !held.kept()).count();
                 without += found.iter().filter(|held| held.grants == 0).count();
                 assert!(
@@ -250,6 +255,58 @@ fn the_watch_finds_what_the_words_say() {
     }
     println!("held {held:?}, of these broken {broken}, without a grant {without}");
     assert!(held.iter().all(|&held| held > 1_000) && broken > 100 && without > 50);
+}
+
+/// Node 3's packet may be promised in frame 1 by these calls from then on: node 1's
+/// packet holds the line over its start, and before it node 3 asked high.
+fn over_a_start(earlier: &[Call], later: Call) -> Vec<Held> {
+    let plan = plan(&by_default(PLAN));
+    let mut hub = Fast::new(&plan);
+    let busy = [Call::Normal { t: 99_000, k: 1, b: 12_000 }, Call::Step { t: 99_001 }];
+    let ends = [Call::Step { t: 200_000 }; 3];
+    let calls = [&busy[..], earlier, &[later], &ends].concat();
+    let list: Vec<(Call, Answer)> = calls.into_iter().map(|call| (call, hub.call(call))).collect();
+    assert_eq!(list[1].1, grant(99_000, 1, 1, 112_000, 0));
+    assert!(list.iter().all(|&(_, answer)| !matches!(answer, Answer::Refused(_))), "{list:?}");
+    let found = measure(&plan, &list);
+    assert_eq!(found, Words { plan: &plan, list: &list }.all());
+    found
+}
+
+/// By slip 8 a request taken as normal isn't the node's high request in any frame; a
+/// real one is, put up at the start itself. 100,000 + 13,000 + 5,000 is the limit.
+#[test]
+fn a_request_taken_as_normal_is_promised_nothing() {
+    let reserve = Call::Reserve { t: 99_500, k: 3, n: 1, b: 4_000 };
+    let high = |t| Call::High { t, k: 3, b: 4_000 };
+    assert_eq!(over_a_start(&[reserve, high(99_500)], Call::Until { t: 100_000 }), []);
+    assert_eq!(over_a_start(&[reserve, high(99_500)], high(100_001)), []);
+    let held = Held { node: 3, frame: 1, n: 1, grants: 1, end: Some(117_000), limit: 118_000 };
+    assert_eq!(over_a_start(&[reserve, high(99_500)], high(100_000)), [held]);
+}
+
+/// The start of frame 2 would make the first of these requests normal, being longer
+/// than the b from then on; the same call puts up the next one, so that "at each later
+/// place" the node's request is high. 200,000 + 13,000 + 2,000 is the limit.
+#[test]
+fn a_high_request_renewed_over_a_start_is_unbroken() {
+    let plan = plan(PLAN);
+    let mut hub = Fast::new(&plan);
+    let calls = [
+        Call::Reserve { t: 0, k: 3, n: 1, b: 4_000 },
+        Call::Reserve { t: 100_000, k: 3, n: 1, b: 1_000 },
+        Call::Normal { t: 199_000, k: 1, b: 12_000 },
+        Call::Step { t: 199_001 },
+        Call::High { t: 199_001, k: 3, b: 4_000 },
+        Call::High { t: 200_001, k: 3, b: 1_000 },
+        Call::Step { t: 300_000 },
+        Call::Step { t: 300_000 },
+        Call::Step { t: 300_000 },
+    ];
+    let list = calls.map(|call| (call, hub.call(call)));
+    let held = Held { node: 3, frame: 2, n: 1, grants: 1, end: Some(214_000), limit: 215_000 };
+    assert_eq!(measure(&plan, &list), [held]);
+    assert_eq!(Words { plan: &plan, list: &list }.all(), [held]);
 }
 
 /// A packet of the greatest length in progress, and everybody else before k in
@@ -316,10 +373,10 @@ fn a_d_too_small_for_the_framing_breaks_it() {
     assert!(broken > 20);
 }
 
-/// Nodes and frames for which demand 3 is looked at, by framing: reserved,
-/// unbroken, held.
+/// Nodes and frames for which demand 3 is looked at, by framing and whether the plan
+/// is strict: reserved, unbroken, held.
 fn random_lists(seeds: std::ops::Range<u64>, calls: u64) {
-    let (mut least, mut total) = ([i64::MAX; 2], [[0; 3]; 2]);
+    let (mut least, mut total) = ([i64::MAX; 4], [[0; 3]; 4]);
     for seed in seeds {
         let mut random = Random::new(seed);
         let plan = plans::plan(&mut random);
@@ -333,17 +390,16 @@ fn random_lists(seeds: std::ops::Range<u64>, calls: u64) {
             watch.hear(call, answer);
         }
         let tally = watch.tally;
-        let framing = plan.framing() as usize;
-        for (sum, one) in total[framing].iter_mut().zip([tally.reserved, tally.unbroken, tally.held]) {
+        for (sum, one) in total[kind(&plan)].iter_mut().zip([tally.reserved, tally.unbroken, tally.held]) {
             *sum += one;
         }
         for held in watch.end() {
             assert!(held.kept() && held.grants == held.n, "seed {seed}: {held:?}");
-            least[framing] = least[framing].min(held.slack().unwrap());
+            least[kind(&plan)] = least[kind(&plan)].min(held.slack().unwrap());
         }
     }
     println!("reserved, unbroken, held: {total:?}; least slack {least:?}");
-    assert!(total.iter().all(|total| total[2] > 10_000));
+    assert!(total.iter().all(|total| total[2] > 5_000));
 }
 
 #[test]

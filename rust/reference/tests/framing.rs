@@ -106,7 +106,7 @@ fn a_framing_line_anywhere_else() {
 #[test]
 fn a_framing_line_among_the_events() {
     for (plan, first) in
-        [(PLAN.into(), 12), (framed(Framing::Ethernet), 13), (framed(Framing::TokenRing), 13)]
+        [(PLAN.into(), 13), (framed(Framing::Ethernet), 14), (framed(Framing::TokenRing), 14)]
     {
         let text = format!("{plan}(framing 3)\n(normal 0 9 512)\n(framing 5)\n(normal 0 1 512)\n(until 1)\n");
         let refused = [(first, 1), (first + 1, 13), (first + 2, 1)];

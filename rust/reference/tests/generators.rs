@@ -1,5 +1,8 @@
 //! The random plans, calls and texts do make the cases of both framings.
 
+mod common;
+
+use common::Found;
 use reference::fast::Fast;
 use reference::hub::{Answer, Call};
 use reference::log::event;
@@ -7,24 +10,6 @@ use reference::plan::{read, Framing, Plan, Refused};
 use reference::random::calls::{list, Style};
 use reference::random::{plans, texts, Random};
 use reference::text::Lines;
-use std::collections::BTreeMap;
-
-/// How often each thing was met.
-#[derive(Default, Debug)]
-struct Found(BTreeMap<String, u64>);
-
-impl Found {
-    fn count(&mut self, what: impl Into<String>) {
-        *self.0.entry(what.into()).or_default() += 1;
-    }
-
-    /// Each of these was met at least so often.
-    fn assert_met(&self, least: u64, whats: &[&str]) {
-        for &what in whats {
-            assert!(self.0.get(what).is_some_and(|&times| times >= least), "{what} was hardly met: {self:?}");
-        }
-    }
-}
 
 /// Where D stands between the least D of both framings.
 fn place_of_d(plan: &Plan) -> &'static str {
@@ -89,7 +74,7 @@ fn calls_have_lengths_about_both_longest() {
         // One bit above framing 3's longest, where framing 5 takes it.
         found.assert_met(5, &[&format!("framing 5, {kind} 12001 Taken")]);
         found.assert_met(200, &[&format!("framing 5, {kind} longer")]);
-        assert!(!found.0.contains_key(&format!("framing 3, {kind} longer")));
+        found.assert_unmet(&format!("framing 3, {kind} longer"));
     }
 }
 
@@ -133,6 +118,7 @@ fn look_at(text: &[u8], found: &mut Found) {
         Err(Refused { line, number: 1 }) if is_framing(line) => match line {
             0..=3 => found.count("before the interrupt"),
             5 if is_framing(4) => found.count("twice"),
+            5 if lines[3].bytes == b"(strict)" => found.count("behind the strict line"),
             _ => found.count("behind the hub"),
         },
         Err(Refused { line, .. }) => found.count(if line <= 3 { "refused above" } else { "refused below" }),
@@ -160,6 +146,7 @@ fn texts_have_every_broken_framing_line() {
             "row 2 on line 4: 5",
             "twice",
             "before the interrupt",
+            "behind the strict line",
             "behind the hub",
             "as an event line",
         ],

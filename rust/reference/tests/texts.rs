@@ -81,7 +81,7 @@ fn a_failing_text_shrinks() {
     assert!(fails(&short));
     assert!(short.split_inclusive(|&byte| byte == b'\n').count() <= 8);
     // A number stops just above where it no longer fails: 12,000 + 8 × 11,001.
-    let over = |text: &[u8]| log(text).ends_with(b"(refused 12 17)\n");
+    let over = |text: &[u8]| log(text).ends_with(b"(refused 13 17)\n");
     let text = format!("{PLAN}(reserve 99 1 29 12000)\n");
     let short = String::from_utf8(shrink(text.as_bytes(), over)).unwrap();
     let figures = "(frame 100000)\n(overhead 0)\n(interrupt 12000)\n";
@@ -107,8 +107,8 @@ fn a_framing_line_shrinks() {
     let text = format!("{}(reserve 99 1 29 12000)\n", framed(Framing::TokenRing));
     let short = shrunk(&text, |text| log(text).ends_with(b" 17)\n"));
     assert_eq!(short, "(interrupt 12000)\n(hub\n(node)\n)\n(reserve 0 1 8 11001)\n");
-    let short = shrunk(&text, |text| log(text).ends_with(b"(refused 13 17)\n"));
-    assert!(short.starts_with("(interrupt 12000)\n(framing 3)\n(hub\n"), "{short}");
+    let short = shrunk(&text, |text| log(text).ends_with(b"(refused 14 17)\n"));
+    assert!(short.starts_with("(interrupt 12000)\n(framing 3)\n(strict)\n(hub\n"), "{short}");
     let text = format!("{}(normal 99 1 36000)\n(until 100)\n", framed(Framing::TokenRing));
     let short = shrunk(&text, grants_a_longer_packet);
     let events = "(normal 0 1 12001)\n(until 1)\n";

@@ -3,22 +3,12 @@
 
 mod common;
 
-use common::{framed, grant, hubs, plan, PLAN};
+use common::{by_default, framed, grant, plan, trial, trial_of_both, PLAN};
 use reference::control::{Control, Turning};
-use reference::hub::Answer::{self, Quiet, Refused, Rest, Taken};
+use reference::hub::Answer::{Quiet, Refused, Rest, Taken};
 use reference::hub::Call::{self, High, Normal, Off, Reserve, Step, Until};
 use reference::hub::Hub;
 use reference::plan::{read, Framing, Plan};
-
-/// These calls get these answers.
-fn trial(plan: &Plan, table: &[(Call, Answer)]) {
-    for (which, hub) in hubs(plan).iter_mut().enumerate() {
-        for (place, &(call, answer)) in table.iter().enumerate() {
-            let expected = if which < 2 { answer } else { answer.without_moves() };
-            assert_eq!(hub.call(call), expected, "hub {which}, call {place}: {call:?}");
-        }
-    }
-}
 
 fn nine() -> Plan {
     plan(&format!("(frame 100000)\n(overhead 1000)\n(interrupt 13000)\n(hub\n{})\n", "(node)\n".repeat(9)))
@@ -29,7 +19,7 @@ const ALL: Call = Step { t: 1_000_000_000_000_000 };
 #[test]
 fn m1_and_m2_go_round() {
     let normal = |t, k| (Normal { t, k, b: 1000 }, Taken);
-    trial(
+    trial_of_both(
         &nine(),
         &[
             normal(0, 2),
@@ -46,7 +36,7 @@ fn m1_and_m2_go_round() {
             (ALL, Quiet),
         ],
     );
-    trial(
+    trial_of_both(
         &nine(),
         &[normal(0, 8), (ALL, grant(0, 8, 1, 2000, 0)), normal(10, 1), (ALL, grant(2000, 1, 1, 4000, 0))],
     );
@@ -54,7 +44,7 @@ fn m1_and_m2_go_round() {
 
 #[test]
 fn m3_the_same_node_again() {
-    trial(
+    trial_of_both(
         &plan(PLAN),
         &[
             (Normal { t: 0, k: 2, b: 1000 }, Taken),
@@ -67,7 +57,7 @@ fn m3_the_same_node_again() {
 
 #[test]
 fn m4_a_change_of_class_and_back() {
-    trial(
+    trial_of_both(
         &plan(PLAN),
         &[
             (Reserve { t: 0, k: 4, n: 1, b: 4000 }, Taken),
@@ -84,17 +74,17 @@ fn m4_a_change_of_class_and_back() {
 
 #[test]
 fn m5_admission() {
-    trial(&plan(PLAN), &[(Reserve { t: 0, k: 1, n: 29, b: 2000 }, Taken)]);
-    trial(&plan(PLAN), &[(Reserve { t: 0, k: 1, n: 29, b: 2001 }, Refused(17))]);
+    trial_of_both(&plan(PLAN), &[(Reserve { t: 0, k: 1, n: 29, b: 2000 }, Taken)]);
+    trial_of_both(&plan(PLAN), &[(Reserve { t: 0, k: 1, n: 29, b: 2001 }, Refused(17))]);
     // By framing 5: 37,000 + 21 × 3,000 = 100,000.
     let token_ring = plan(&framed(Framing::TokenRing));
-    trial(&token_ring, &[(Reserve { t: 0, k: 1, n: 21, b: 2000 }, Taken)]);
-    trial(&token_ring, &[(Reserve { t: 0, k: 1, n: 21, b: 2001 }, Refused(17))]);
+    trial_of_both(&token_ring, &[(Reserve { t: 0, k: 1, n: 21, b: 2000 }, Taken)]);
+    trial_of_both(&token_ring, &[(Reserve { t: 0, k: 1, n: 21, b: 2001 }, Refused(17))]);
 }
 
 #[test]
 fn m6_packets_a_frame() {
-    trial(
+    trial_of_both(
         &plan(PLAN),
         &[
             // 64 packets pass row 14; here the frame can't hold them.
@@ -114,9 +104,13 @@ fn m7_lengths() {
         let plan = plan(&text);
         for b in [511, 512, 11_999, 12_000, 12_001, 35_999, 36_000, 36_001, 65_536 + 512, u64::MAX] {
             let answer = if (512..=longest).contains(&b) { Taken } else { Refused(15) };
-            trial(&plan, &[(Normal { t: 0, k: 1, b }, answer), (Reserve { t: 0, k: 1, n: 1, b }, answer)]);
+            let reserve = (Reserve { t: 0, k: 1, n: 1, b }, answer);
+            trial_of_both(&plan, &[(Normal { t: 0, k: 1, b }, answer), reserve]);
             let high = if answer == Taken { Refused(16) } else { answer };
             trial(&plan, &[(High { t: 0, k: 1, b }, high)]);
+            // By slip 8 it is taken as normal, as long as a normal one may be.
+            let by_default = Plan { strict: false, ..plan.clone() };
+            trial(&by_default, &[(High { t: 0, k: 1, b }, answer)]);
         }
     }
 }
@@ -126,7 +120,7 @@ fn m7_lengths() {
 #[test]
 fn the_longest_packets_of_framing_5() {
     let normal = |t, k| (Normal { t, k, b: 36_000 }, Taken);
-    trial(
+    trial_of_both(
         &plan(&framed(Framing::TokenRing)),
         &[
             // 37,000 + 37,000 + 26,000 = 100,000.
@@ -149,7 +143,7 @@ fn the_longest_packets_of_framing_5() {
 
 #[test]
 fn m8_held_to_the_next_frame() {
-    trial(
+    trial_of_both(
         &plan(PLAN),
         &[
             (Reserve { t: 0, k: 3, n: 1, b: 4000 }, Taken),
@@ -165,7 +159,7 @@ fn m8_held_to_the_next_frame() {
 
 #[test]
 fn m9_a_bound_at_the_due_instant() {
-    trial(
+    trial_of_both(
         &plan(PLAN),
         &[
             (Normal { t: 7, k: 1, b: 1000 }, Taken),
@@ -212,13 +206,15 @@ fn m10_plans() {
     let token_ring = framed(Framing::TokenRing).replace("37000", "36999");
     assert_eq!(read(token_ring.as_bytes()).map_err(|refused| (refused.line, refused.number)), Err((4, 2)));
     let six = format!("{}{}(node)\n", &PLAN[..PLAN.find("(hub").unwrap()], "(hub\n".repeat(6));
+    assert_eq!(read(six.as_bytes()).map_err(|refused| (refused.line, refused.number)), Err((10, 3)));
+    let six = by_default(&six);
     assert_eq!(read(six.as_bytes()).map_err(|refused| (refused.line, refused.number)), Err((9, 3)));
 }
 
 #[test]
 fn times_up_to_the_largest_number() {
     let last = 1_000_000_000_000_000;
-    trial(
+    trial_of_both(
         &plan(PLAN),
         &[
             (Until { t: u64::MAX }, Refused(11)),

@@ -2,11 +2,12 @@
 
 mod common;
 
-use common::{texts, texts_now, vectors};
+use common::{by_default, texts, texts_now, vectors};
 use reference::control::{Control, Turning};
 use reference::hub::Hub;
 use reference::log::{log, log_of};
 use reference::peer;
+use reference::plan::Plan;
 use std::path::PathBuf;
 
 /// So many texts have the logs that stand beside them.
@@ -19,13 +20,40 @@ fn logs_are_given(texts: Vec<PathBuf>, count: usize, log: impl Fn(&[u8]) -> Vec<
 
 #[test]
 fn every_log_is_the_one_given() {
-    logs_are_given(texts_now(), 79, log);
-    logs_are_given(texts_now(), 79, peer::log::log);
+    logs_are_given(texts_now(), 116, log);
+    logs_are_given(texts_now(), 116, peer::log::log);
 }
 
-/// By document 01's own rule 2 every log is the one given before slip 4.
+/// Strict and by document 01's own rule 2 every log is the one given before slips
+/// 4 and 8.
 #[test]
 fn every_log_by_the_root_is_the_one_given_before() {
-    let by_root = |text: &[u8]| log_of(text, |plan| Hub::new(plan, Control::turning(plan, Turning::Root)));
+    let by_root = |text: &[u8]| {
+        log_of(text, |plan| {
+            let plan = Plan { strict: true, ..plan.clone() };
+            Hub::new(&plan, Control::turning(&plan, Turning::Root))
+        })
+    };
     logs_are_given(texts(&vectors()), 53, by_root);
+}
+
+/// "NAME-default is NAME without the line": the pairs of slip 8, of which all but
+/// one have logs that differ in more than what is refused.
+#[test]
+fn a_default_text_is_the_other_without_the_line() {
+    let (mut pairs, mut differ) = (0, 0);
+    for path in texts(&vectors().join("after-8")) {
+        let name = path.file_stem().unwrap().to_str().unwrap();
+        let Some(strict) = name.strip_suffix("-default") else { continue };
+        let strict = path.with_file_name(strict).with_extension("text");
+        let read = |path: &PathBuf| std::fs::read_to_string(path).unwrap();
+        assert_eq!(read(&path), by_default(&read(&strict)), "{name}");
+        let grants = |path: &PathBuf| {
+            let log = read(&path.with_extension("log"));
+            log.lines().filter(|line| !line.starts_with("(refused")).map(str::to_string).collect::<Vec<_>>()
+        };
+        pairs += 1;
+        differ += u64::from(grants(&path) != grants(&strict));
+    }
+    assert_eq!((pairs, differ), (20, 19));
 }

@@ -2,7 +2,7 @@
 
 use crate::archive::cells::{cascade, plan};
 use crate::archive::{self, five, on_all, Archive};
-use crate::found::{assert_met, count, join, Found};
+use crate::common::Found;
 use crate::FILL;
 use lembuya::ffi;
 use reference::hub::Call;
@@ -146,14 +146,16 @@ fn plausible(call: Call, six: [u64; 6], changed: bool) -> bool {
     }
 }
 
-/// Two equal pairs of tables of random content take the same calls, some single and some in a list.
-fn try_junk(seed: u64, found: &mut Found) {
-    let mut random = Random::new(seed);
-    let (for_plan, for_cascade) = (random.one_of(&JUNKS), random.one_of(&JUNKS));
+/// Two pairs of tables of random content that every call must treat alike, and whether their plans are strict. They are equal but
+/// for the strict line's cell: any number but 0 is strict, and one as good as another.
+fn pairs(random: &mut Random, junks: [Junk; 2]) -> (Archive, Archive, bool) {
     let mut one = Archive::blank(0, random.chance(70));
-    real(&mut random, &mut one);
-    spoil(&mut random, for_plan, one.plan(), plan_cell);
-    spoil(&mut random, for_cascade, one.cascade(), cascade_cell);
+    real(random, &mut one);
+    spoil(random, junks[0], one.plan(), plan_cell);
+    spoil(random, junks[1], one.cascade(), cascade_cell);
+    if random.chance(50) {
+        one.plan()[plan::STRICT] = 0;
+    }
     if random.chance(50) {
         // A clock that row 11 lets pass.
         one.cascade()[cascade::CLOCK + cascade::HIGH_HALF] %= 200_000;
@@ -161,7 +163,21 @@ fn try_junk(seed: u64, found: &mut Found) {
     let mut other = Archive::blank(0, random.chance(70));
     *other.plan() = *one.plan();
     *other.cascade() = *one.cascade();
-    let plan_before = *one.plan();
+    let strict = one.plan()[plan::STRICT] != 0;
+    if strict {
+        other.plan()[plan::STRICT] = any_cell(random).max(1);
+    }
+    (one, other, strict)
+}
+
+/// Two such pairs take the same calls, some single and some in a list.
+fn try_junk(seed: u64, found: &mut Found) {
+    let mut random = Random::new(seed);
+    let (for_plan, for_cascade) = (random.one_of(&JUNKS), random.one_of(&JUNKS));
+    let (mut one, mut other, strict) = pairs(&mut random, [for_plan, for_cascade]);
+    let plans_before = [*one.plan(), *other.plan()];
+    let told = plans_before.map(|table| unsafe { ffi::lembuya_strict(&table) });
+    assert_eq!(told, [u32::from(strict); 2], "seed {seed}");
     for _ in 0..20 {
         let before = *one.cascade();
         let call = any_call(&mut random, &before);
@@ -178,12 +194,15 @@ fn try_junk(seed: u64, found: &mut Found) {
         assert_eq!(again, six, "{}", what());
         assert!(one.cascade() == other.cascade(), "{}", what());
         let name = if matches!(call, Call::Step { .. }) { "step" } else { "event" };
-        count(found, format!("{name} {}", six[0]), 1);
-        count(found, "calls", 2);
+        found.count(format!("{name} {}", six[0]));
+        if let (Call::High { .. }, 0 | 16) = (call, six[0]) {
+            found.count(format!("high {}, {}", six[0], if strict { "strict" } else { "default" }));
+        }
+        found.add("calls", 2);
     }
-    assert!(*one.plan() == plan_before && *other.plan() == plan_before, "seed {seed}: the plan was changed");
+    assert!([*one.plan(), *other.plan()] == plans_before, "seed {seed}: a plan was changed");
     over_junk(seed, &mut random, one, other);
-    count(found, "calls", 6);
+    found.add("calls", 6);
 }
 
 /// What takes the tables only to fill them: a plan read, a table made fresh, a run.
@@ -217,11 +236,12 @@ fn over_junk(seed: u64, random: &mut Random, mut one: Archive, mut other: Archiv
 
 #[test]
 fn junk_tables() {
-    let found = on_all(0..10_000, try_junk, join);
+    let found = on_all(0..10_000, try_junk, Found::join);
     println!("{found:?}");
-    assert_met(&found, 400_000, &["calls"]);
+    found.assert_met(400_000, &["calls"]);
     let cases =
         ["event 0", "event 11", "event 12", "event 13", "event 14", "event 15", "event 16", "event 17"];
-    assert_met(&found, 200, &cases);
-    assert_met(&found, 200, &["step 1", "step 2", "step 3", "step 11"]);
+    found.assert_met(200, &cases);
+    found.assert_met(200, &["step 1", "step 2", "step 3", "step 11"]);
+    found.assert_met(50, &["high 0, strict", "high 16, strict", "high 0, default", "high 16, default"]);
 }

@@ -1,7 +1,7 @@
 //! Event lines, as the crate reads and writes them.
 
 use crate::archive::{of_crate, on_all, setting};
-use crate::found::{assert_met, count, join};
+use crate::common::Found;
 use reference::log::event;
 use reference::plan;
 use reference::random::{texts, Random};
@@ -24,11 +24,11 @@ fn event_lines_are_read_and_shown_alike() {
                 if let Some(call) = expected {
                     assert_eq!(call.to_string(), shown, "seed {seed}");
                 }
-                count(found, if expected.is_some() { "event" } else { "no event" }, 1);
+                found.count(if expected.is_some() { "event" } else { "no event" });
             }
         },
-        join,
+        Found::join,
     );
     println!("{found:?}");
-    assert_met(&found, 10 * texts, &["event", "no event"]);
+    found.assert_met(10 * texts, &["event", "no event"]);
 }

@@ -1,8 +1,8 @@
 //! Lists of calls, one by one and through `lembuya_list`.
 
 use crate::archive::{self, answer, five, on_all, setting, Archive, Fenced};
-use crate::found::{assert_met, count, join, Found};
-use crate::{control, cut_down, FILL_CELL};
+use crate::common::{control, Found, Shares};
+use crate::{cut_down, FILL_CELL};
 use lembuya::ffi;
 use reference::fast::Fast;
 use reference::flat::Flat;
@@ -149,17 +149,31 @@ fn show_list(seed: u64, plan: &Plan, list: &[(Call, Answer)]) -> ! {
 
 fn count_answer(found: &mut Found, plan: &Plan, answer: &Answer) {
     match answer {
-        Answer::Refused(row) => count(found, format!("row {row}"), 1),
-        Answer::Grant { class, .. } => count(found, format!("grant {class:?}"), 1),
-        Answer::Taken => count(found, "taken", 1),
-        Answer::Rest { .. } => count(found, "rest", 1),
-        Answer::Quiet => count(found, "quiet", 1),
+        Answer::Refused(row) => found.count(format!("row {row}")),
+        Answer::Grant { class, .. } => found.count(format!("grant {class:?}")),
+        Answer::Taken => found.count("taken"),
+        Answer::Rest { .. } => found.count("rest"),
+        Answer::Quiet => found.count("quiet"),
     }
     if matches!(answer, Answer::Grant { time, end, .. } if end - time > plan.overhead + 12_000) {
-        count(found, "grant by framing 5 alone", 1);
+        found.count("grant by framing 5 alone");
     }
     if answer.moves() >= 12 {
-        count(found, "12 moves or more", 1);
+        found.count("12 moves or more");
+    }
+}
+
+/// High requests by what was in force at their time, where no row before 16 refused them.
+fn count_high(found: &mut Found, plan: &Plan, list: &[(Call, Answer)]) {
+    let mut shares = Shares::new(plan);
+    let strict = if plan.strict { "strict" } else { "default" };
+    for &(call, answer) in list {
+        if let (Call::High { t, k, .. }, Answer::Taken | Answer::Refused(16)) = (call, answer) {
+            let reserved = if shares.at(t, k).0 == 0 { "unreserved" } else { "reserved" };
+            let taken = if answer == Answer::Taken { "taken" } else { "refused" };
+            found.count(format!("{strict}, {reserved}: {taken}"));
+        }
+        shares.hear(call, answer);
     }
 }
 
@@ -177,20 +191,23 @@ fn lists_of_calls() {
             if same_answers(&plan, &list).is_err() {
                 show_list(seed, &plan, &list);
             }
-            count(found, "calls", LENGTH as u64);
+            found.add("calls", LENGTH as u64);
             list.iter().for_each(|(_, answer)| count_answer(found, &plan, answer));
+            count_high(found, &plan, &list);
         },
-        join,
+        Found::join,
     );
     println!("{found:?}");
     let least = calls / 1_000;
-    assert_met(
-        &found,
-        least,
-        &["row 11", "row 12", "row 13", "row 14", "row 15", "row 16", "row 17", "taken"],
-    );
-    assert_met(&found, least, &["grant Normal", "grant High", "grant by framing 5 alone", "rest", "quiet"]);
-    assert_met(&found, calls / 100_000, &["12 moves or more"]);
+    found.assert_met(least, &["row 11", "row 12", "row 13", "row 14", "row 15", "row 16", "row 17", "taken"]);
+    found.assert_met(least, &["grant Normal", "grant High", "grant by framing 5 alone", "rest", "quiet"]);
+    found.assert_met(calls / 100_000, &["12 moves or more"]);
+    found.assert_met(least, &["strict, unreserved: refused", "default, unreserved: taken"]);
+    found.assert_met(least, &["strict, reserved: taken", "default, reserved: taken"]);
+    found.assert_met(least, &["strict, reserved: refused", "default, reserved: refused"]);
+    for other in ["strict, unreserved: taken", "default, unreserved: refused"] {
+        found.assert_unmet(other);
+    }
 }
 
 #[test]

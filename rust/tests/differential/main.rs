@@ -14,7 +14,8 @@
 
 #[path = "../archive/mod.rs"]
 mod archive;
-mod found;
+#[path = "../../reference/tests/common/mod.rs"]
+mod common;
 mod junk;
 mod lines;
 mod lists;
@@ -22,20 +23,12 @@ mod plans;
 mod short;
 mod whole_texts;
 
-use reference::control::Control;
-use reference::hub::Hub;
-use reference::plan::Plan;
 use reference::shrink::shrink;
 use std::time::{Duration, Instant};
 
 /// A byte and a cell that nothing writes by chance.
 const FILL: u8 = 0xa5;
 const FILL_CELL: u32 = 0xa5a5_a5a5;
-
-/// The reference's hub by hub control.
-fn control(plan: &Plan) -> Hub<Control> {
-    Hub::new(plan, Control::new(plan))
-}
 
 /// A text that fails, cut down as far as some seconds allow.
 fn cut_down(text: &[u8], fails: impl Fn(&[u8]) -> bool) -> Vec<u8> {

@@ -1,14 +1,14 @@
 //! Plans that are taken and refused, and what their tables tell.
 
 use crate::archive::{self, on_all, setting, Archive, Fenced};
-use crate::found::{assert_met, count, join, Found};
-use crate::{control, cut_down, FILL_CELL};
+use crate::common::{control, Found};
+use crate::{cut_down, FILL_CELL};
 use reference::hub::{Call, Calls};
 use reference::plan;
-use reference::random::{framings, plans, Random};
+use reference::random::{framings, plans, stricts, Random};
 
 /// Lines that a plan's line may become.
-const LINES: [&str; 18] = [
+const LINES: [&str; 19] = [
     "(node)",
     "(empty)",
     "(hub",
@@ -27,6 +27,7 @@ const LINES: [&str; 18] = [
     "(interrupt 12000)",
     "(framing 3)",
     "(framing 5)",
+    "(strict)",
 ];
 
 /// Figures about the limits of T, O and D, D's by both framings, and such as are no numbers.
@@ -91,6 +92,9 @@ fn plan_text(random: &mut Random) -> Vec<u8> {
     if random.chance(15) {
         framings::damage(random, &mut text);
     }
+    if random.chance(20) {
+        stricts::damage(random, &mut text);
+    }
     text
 }
 
@@ -150,6 +154,7 @@ fn same_tree(text: &[u8], expected: &plan::Plan) -> Result<(), String> {
     // Whether framing 3 had its line isn't told.
     let framing = plan::Framing::of(told.framing().number().into()).expect("3 or 5");
     tree.framing_line = expected.framing_line.and(Some(framing));
+    tree.strict = told.is_strict();
     tree.nodes = told.nodes() as usize;
     tree.hubs = (1..=told.hubs()).map(|hub| of_reference(told.hub(hub).expect("up to H"))).collect();
     if tree != *expected {
@@ -159,8 +164,9 @@ fn same_tree(text: &[u8], expected: &plan::Plan) -> Result<(), String> {
     if found != known {
         return Err(format!("reference: {known:?}\narchive: {found:?}"));
     }
-    for b in [12_000, 12_001, 36_000, 36_001] {
-        let call = Call::Normal { t: 0, k: 1, b };
+    // What the framing decides, and whether a node with nothing reserved may ask high.
+    let lengths = [12_000, 12_001, 36_000, 36_001].map(|b| Call::Normal { t: 0, k: 1, b });
+    for call in lengths.into_iter().chain([Call::High { t: 0, k: 1, b: 512 }]) {
         let (found, known) = (Archive::new(expected).call(call), control(expected).call(call));
         if found != known {
             return Err(format!("{call:?}\nreference: {known:?}\narchive: {found:?}"));
@@ -223,19 +229,27 @@ fn same_plan(text: &[u8]) -> Result<(), String> {
 }
 
 fn count_taken(found: &mut Found, plan: &plan::Plan) {
-    count(found, "taken", 1);
+    found.count("taken");
     let framing = plan.framing_line.map_or(0, |framing| framing.number());
-    count(found, format!("framing line {framing}"), 1);
-    count(found, format!("levels {}", plan.levels()), 1);
-    count(found, "256 nodes", u64::from(plan.nodes == 256));
-    count(found, "32 hubs", u64::from(plan.hubs.len() == 32));
+    found.count(format!("framing line {framing}"));
+    let strict = if plan.strict { "strict" } else { "not strict" };
+    found.count(format!("{strict} behind framing line {framing}"));
+    found.count(format!("levels {}", plan.levels()));
+    found.add("256 nodes", u64::from(plan.nodes == 256));
+    found.add("32 hubs", u64::from(plan.hubs.len() == 32));
 }
 
-/// By row, and once more those on the line where a framing's may stand.
-fn count_refused(found: &mut Found, refused: &plan::Refused) {
-    count(found, format!("row {}", refused.number), 1);
+/// By row, and once more those on the line where a framing's may stand, and those of a line like `(strict)`.
+fn count_refused(found: &mut Found, text: &[u8], refused: &plan::Refused) {
+    found.count(format!("row {}", refused.number));
     if refused.line == 4 {
-        count(found, format!("row {} on line 4", refused.number), 1);
+        found.count(format!("row {} on line 4", refused.number));
+    }
+    let line = text.split(|&byte| byte == b'\n').nth(refused.line as usize - 1).unwrap_or_default();
+    if line == b"(strict)" {
+        found.count("(strict) where none may stand");
+    } else if line.starts_with(b"(strict") {
+        found.count("no form of (strict)");
     }
 }
 
@@ -259,18 +273,22 @@ fn plans_are_taken_and_refused_alike() {
                     same_tree(&text, &taken.plan).unwrap_or_else(|wrong| panic!("seed {seed}: {wrong}"));
                     count_taken(found, &taken.plan);
                 }
-                Err(refused) => count_refused(found, &refused),
+                Err(refused) => count_refused(found, &text, &refused),
             }
         },
-        join,
+        Found::join,
     );
     println!("{found:?}");
     let least = plans / 200;
-    assert_met(
-        &found,
+    found.assert_met(
         least,
         &["taken", "row 1", "row 2", "row 3", "row 4", "256 nodes", "32 hubs", "levels 1", "levels 5"],
     );
-    assert_met(&found, least, &["framing line 0", "framing line 3", "framing line 5"]);
-    assert_met(&found, least, &["row 1 on line 4", "row 4 on line 4", "row 2 on line 4"]);
+    found.assert_met(least, &["framing line 0", "framing line 3", "framing line 5"]);
+    found.assert_met(least, &["row 1 on line 4", "row 4 on line 4", "row 2 on line 4"]);
+    for framing in [0, 3, 5] {
+        let lines = ["strict", "not strict"].map(|strict| format!("{strict} behind framing line {framing}"));
+        found.assert_met(least, &[&lines[0], &lines[1]]);
+    }
+    found.assert_met(least, &["(strict) where none may stand", "no form of (strict)"]);
 }

@@ -1,7 +1,8 @@
 //! Buffers and lists that are too short, and lists that are none.
 
 use crate::archive::{self, five, Archive, Fenced};
-use crate::{control, FILL, FILL_CELL};
+use crate::common::{by_default, control, PLAN};
+use crate::{FILL, FILL_CELL};
 use reference::log::log;
 use reference::plan::Plan;
 use reference::random::calls::{list, Style};
@@ -9,12 +10,13 @@ use reference::random::{plans, texts, Random};
 
 /// The text of document 01's log, and some other small ones.
 fn small_texts() -> Vec<Vec<u8>> {
-    let example = "(frame 100000)\n(overhead 1000)\n(interrupt 13000)\n(hub\n(node)\n(hub\n(node)\n(node)\n)\n(node)\n)\n\
-        (reserve 0 3 2 4000)\n(normal 0 1 12000)\n(normal 0 4 6000)\n(high 0 3 4000)\n(normal 99000 2 12000)\n\
+    let events = "(reserve 0 3 2 4000)\n(normal 0 1 12000)\n(normal 0 4 6000)\n(high 0 3 4000)\n(normal 99000 2 12000)\n\
         (high 100000 3 4000)\n(normal 100000 1 1000)\n(until 200000)\n";
-    let plan = &example[..example.find("(reserve").unwrap()];
+    let (plan, example) = (PLAN, format!("{PLAN}{events}"));
     let mut texts: Vec<Vec<u8>> = [
-        example.into(),
+        by_default(&example),
+        example,
+        plan.replace("(strict)", "(strict)\n(strict)"),
         plan.into(),
         String::new(),
         plan.replace("13000", "12999"),
@@ -25,7 +27,7 @@ fn small_texts() -> Vec<Vec<u8>> {
     .map(String::into_bytes)
     .into();
     let mut random = Random::new(7);
-    while texts.len() < 14 {
+    while texts.len() < 16 {
         let text = texts::text(&mut random);
         if (100..3_000).contains(&log(&text).len()) {
             texts.push(text);

@@ -1,12 +1,13 @@
 //! Whole texts: the log, and what the run leaves.
 
 use crate::archive::{self, on_all, setting, Archive, Fenced};
-use crate::found::{assert_met, count, join, Found};
+use crate::common::Found;
 use crate::{cut_down, FILL, FILL_CELL};
 use lembuya::{ffi, LONGEST_LOG};
 use reference::hub::{Answer, Call, Calls};
 use reference::log::{log, log_of};
 use reference::peer;
+use reference::plan;
 use reference::random::{texts, Random};
 
 /// Whether the archive writes the log expected, into a buffer that has some bytes more or none, or that has
@@ -97,12 +98,12 @@ fn count_log(found: &mut Found, log: &[u8]) {
         let word = line.split(' ').next().unwrap();
         let number = line.trim_end_matches(')').rsplit(' ').next().unwrap();
         match (word, bad_plan) {
-            ("(refused", true) => count(found, format!("plan {number}"), 1),
-            ("(refused", false) => count(found, format!("event {number}"), 1),
-            _ => count(found, &word[1..], 1),
+            ("(refused", true) => found.count(format!("plan {number}")),
+            ("(refused", false) => found.count(format!("event {number}")),
+            _ => found.count(&word[1..]),
         }
     }
-    count(found, "bytes", log.len() as u64);
+    found.add("bytes", log.len() as u64);
 }
 
 #[test]
@@ -115,23 +116,29 @@ fn whole_logs() {
             if same_log(&text).is_err() {
                 show_text(seed, text);
             }
-            count_log(found, &log(&text));
-            count(found, "texts", 1);
-            count(found, "longer than is read", u64::from(text.len() > 65_536));
+            let log = log(&text);
+            count_log(found, &log);
+            let strict = plan::read(&text).is_ok_and(|taken| taken.plan.strict);
+            let row_16 = |line: &&[u8]| line.starts_with(b"(refused ") && line.ends_with(b" 16)");
+            let refused = log.split(|&byte| byte == b'\n').filter(row_16).count();
+            let name = if strict { "event 16, strict" } else { "event 16, default" };
+            found.add(name, refused as u64);
+            found.count("texts");
+            found.add("longer than is read", u64::from(text.len() > 65_536));
         },
-        join,
+        Found::join,
     );
     println!("{found:?}");
     let least = texts / 500;
-    assert_met(
-        &found,
+    found.assert_met(
         least,
         &["nodes", "grant", "rest", "plan 1", "plan 2", "plan 3", "plan 4", "longer than is read"],
     );
-    assert_met(
-        &found,
+    found.assert_met(
         least,
         &["event 1", "event 11", "event 13", "event 14", "event 15", "event 16", "event 17"],
     );
-    assert!(!found.contains_key("event 12"), "a run never meets 12");
+    found.assert_met(least, &["event 16, strict", "event 16, default"]);
+    // A run never meets 12.
+    found.assert_unmet("event 12");
 }

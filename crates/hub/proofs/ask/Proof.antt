@@ -20,8 +20,8 @@ returns c =
 advance-requires : tie.Need-advance-requires
 advance-requires c κs = search needs
 
-cast-put-request : tie.Need-cast-put-request
-cast-put-request c =
+cast-request-code : tie.Need-cast-request-code
+cast-request-code c =
     let a = c .before .before .before .before .before .before .args in
     let w =
     ask-asked (a .p .now) (a .s .now) (classOf (a .high)) (a .t) (a .k) (a .b) (c .before .before .before .before .ask-row .ensures)
@@ -31,8 +31,18 @@ cast-put-request c =
 request-code-requires : tie.Need-request-code-requires
 request-code-requires c κs =
     let a = c .before .before .before .before .before .before .args in
+    let w =
     ask-asked (a .p .now) (a .s .now) (classOf (a .high)) (a .t) (a .k) (a .b) (c .before .before .before .before .ask-row .ensures)
-    (c .before .before .before .if1 .left) .bits
+    (c .before .before .before .if1 .left) in
+    omega arith
+
+cast-put-request : tie.Need-cast-put-request
+cast-put-request c =
+    let a = c .before .before .before .before .before .before .before .before .args in
+    let w =
+    ask-asked (a .p .now) (a .s .now) (classOf (a .high)) (a .t) (a .k) (a .b) (c .before .before .before .before .before .before .ask-row .ensures)
+    (c .before .before .before .before .before .if1 .left) in
+    omega arith
 
 put-request-requires : tie.Need-put-request-requires
 put-request-requires c κs = search needs
@@ -40,10 +50,10 @@ put-request-requires c κs = search needs
 returns-2 : tie.Need-returns-2
 unfolding changeBy
 returns-2 c =
-    let a = c .before .before .before .before .before .before .before .before .args in
-    event-taken (a .p .now) (a .s .now) (ask (classOf (a .high)) (a .t) (a .k) (a .b)) (c .before .before .before .before .before .before .ask-row .ensures)
-    (c .before .before .before .before .before .if1 .left)
-    (rw (c .before .request-code .ensures, c .before .before .before .advance .ensures) at (c .put-request .ensures))
+    let a = c .before .before .before .before .before .before .before .before .before .args in
+    event-taken (a .p .now) (a .s .now) (ask (classOf (a .high)) (a .t) (a .k) (a .b)) (c .before .before .before .before .before .before .before .ask-row .ensures)
+    (c .before .before .before .before .before .before .if1 .left)
+    (rw (c .before .before .request-code .ensures, c .before .before .before .before .advance .ensures) at (c .put-request .ensures))
 
 pub ask-spec : {M : Type 1} → statement M
 ask-spec =
@@ -52,7 +62,8 @@ ask-spec =
     ask-row-requires
     returns
     advance-requires
-    cast-put-request
+    cast-request-code
     request-code-requires
+    cast-put-request
     put-request-requires
     returns-2)

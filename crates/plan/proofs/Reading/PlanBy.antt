@@ -19,13 +19,13 @@ use Rattle.plan_tree.specs.declared.Place.{Place}
 use Rattle.plan_tree.specs.declared.Part.{Part}
 use Rattle.plan_tree.specs.declared.Part.the-variants.{Read, Stopped}
 use Rattle.plan_tree.specs.Kind.{kindOf, isHub}
-use Rattle.plan.specs.Words.{frame-word, overhead-word, interrupt-word, framing-word}
+use Rattle.plan.specs.Words.{frame-word, overhead-word, interrupt-word, framing-word, strict-word}
 use Rattle.plan_tree.specs.Tables.{noTable, putRoot}
 use Rattle.plan.specs.Reading as reading
 use Rattle.plan.specs.Tables.{Figures}
-use Rattle.plan.specs.Reading.{next, refusal, onLine, figure, optional, whereForm, unlessRow, framingRow, begun, hubLines, rootLine, framingLine, interruptLine, overheadLine, frameLine}
+use Rattle.plan.specs.Reading.{next, refusal, onLine, figure, optional, whereForm, unlessRow, framingRow, begun, hubLines, rootLine, strictLine, framingLine, interruptLine, overheadLine, frameLine}
 use Rattle.plan_tree.specs.Readers.{Answered, hubReader}
-use Rattle.plan.specs.PlanReader.{planOver, behindFigure, behindOptional, behindRoot, hubAt, framingAt, interruptAt, overheadAt, planBy}
+use Rattle.plan.specs.PlanReader.{planOver, behindFigure, behindOptional, behindRoot, hubAt, strictAt, framingAt, interruptAt, overheadAt, planBy}
 use Rattle.plan.proofs.Reading.Agree.{First, first, over, Moves, hub-agrees}
 
 module _ (text : List ℕ) where
@@ -127,16 +127,26 @@ module _ (text : List ℕ) (left : ℕ) (enough : length text ≤ left) (fits : 
           let f = first text c l rest e in
           rw (f .bytes) (begins (isHub (kindOf l)) l rest f (hub-bytes l))
 
+  strict-agrees : (T O D framing : ℕ) (c : Cursor) → Early text c
+      → strictLine T O D framing (lines (drop (c .at) text)) c ≡ strictAt text left T O D framing c
+  unfolding strictLine
+  strict-agrees T O D framing c early =
+      let figures : Bool → Figures = λ strict. record { frame = T; overhead = O; interrupt = D; framing = framing; strict = strict } in
+      optional-agrees text c early strict-word 0 (λ rest d _. rootLine (figures true) rest d) (λ rest d. rootLine (figures false) rest d)
+      (λ _ d. hubAt text left (figures true) d)
+      (hubAt text left (figures false) c)
+      (λ _ d late. root-agrees (figures true) d late)
+      (root-agrees (figures false) c early)
+
   framing-agrees : (T O D : ℕ) (c : Cursor) → Early text c → framingLine T O D (lines (drop (c .at) text)) c ≡ framingAt text left T O D c
   unfolding framingLine
   framing-agrees T O D c early =
-      let figures : ℕ → Figures = λ framing. record { frame = T; overhead = O; interrupt = D; framing = framing } in
-      optional-agrees text c early framing-word 1 (λ rest d framing. unlessRow (framingRow O D framing) c (rootLine (figures framing) rest d))
-      (λ rest d. rootLine (figures 3) rest d)
-      (λ framing d. unlessRow (framingRow O D framing) c (hubAt text left (figures framing) d))
-      (hubAt text left (figures 3) c)
-      (λ framing d late. ap (unlessRow (framingRow O D framing) c) (root-agrees (figures framing) d late))
-      (root-agrees (figures 3) c early)
+      optional-agrees text c early framing-word 1 (λ rest d framing. unlessRow (framingRow O D framing) c (strictLine T O D framing rest d))
+      (λ rest d. strictLine T O D 3 rest d)
+      (λ framing d. unlessRow (framingRow O D framing) c (strictAt text left T O D framing d))
+      (strictAt text left T O D 3 c)
+      (λ framing d late. ap (unlessRow (framingRow O D framing) c) (strict-agrees T O D framing d late))
+      (strict-agrees T O D 3 c early)
 
   interrupt-agrees : (T O : ℕ) (c : Cursor) → Early text c → interruptLine T O (lines (drop (c .at) text)) c ≡ interruptAt text left T O c
   unfolding interruptLine

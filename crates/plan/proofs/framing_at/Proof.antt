@@ -29,8 +29,8 @@ returns c =
     let e = framing-not (a .text .now) (length (a .text .now)) (a .t) (a .o) (a .d) (a .c) (v .0 .0) (v .0 .1 .0) (sym (c .before .before .before .before .before .optional-at .ensures) ∙ v .1) (λ z. c .if1 .taken (c .before .framing-row .ensures ∙ z)) in
     (ap (λ (n : ℕ). Refused (a .c .number) n) (c .before .framing-row .ensures) ∙ sym (ap (λ (r : Read). r .answer) e), sym (ap (λ (r : Read). leaves r (a .plan .now)) e))
 
-hub-at-requires : tie.Need-hub-at-requires
-hub-at-requires c κs =
+strict-at-requires : tie.Need-strict-at-requires
+strict-at-requires c κs =
     let a = c .before .before .before .before .before .before .before .before .before .args in
     let pre = c .before .before .before .before .before .before .before .before .before .pre in
     let v = c .before .before .before .before .value .given in
@@ -39,21 +39,21 @@ hub-at-requires c κs =
 enum-told : tie.Need-enum-told
 enum-told c = search needs
 
-hub-at-requires-2 : tie.Need-hub-at-requires-2
-hub-at-requires-2 c κs = search needs
+strict-at-requires-2 : tie.Need-strict-at-requires-2
+strict-at-requires-2 c κs = search needs
 
 returns-2 : tie.Need-returns-2
 returns-2 c =
     let a = c .before .before .before .before .before .before .before .before .before .before .args in
     let v = c .before .before .before .before .before .value .given in
     let e = framing-got (a .text .now) (length (a .text .now)) (a .t) (a .o) (a .d) (a .c) (v .0 .0) (v .0 .1 .0) (sym (c .before .before .before .before .before .before .before .optional-at .ensures) ∙ v .1) (sym (c .before .before .before .framing-row .ensures) ∙ c .before .before .if1 .left) in
-    (c .hub-at .ensures .0 ∙ sym (ap (λ (r : Read). r .answer) e), c .hub-at .ensures .1 ∙ sym (ap (λ (r : Read). leaves r (a .plan .now)) e))
+    (c .strict-at .ensures .0 ∙ sym (ap (λ (r : Read). r .answer) e), c .strict-at .ensures .1 ∙ sym (ap (λ (r : Read). leaves r (a .plan .now)) e))
 
 returns-3 : tie.Need-returns-3
 returns-3 c =
     let a = c .before .before .before .before .before .before .before .args in
     let e = framing-absent (a .text .now) (length (a .text .now)) (a .t) (a .o) (a .d) (a .c) (sym (c .before .before .before .before .optional-at .ensures) ∙ c .before .before .enum-told .given .1) in
-    (c .hub-at2 .ensures .0 ∙ sym (ap (λ (r : Read). r .answer) e), c .hub-at2 .ensures .1 ∙ sym (ap (λ (r : Read). leaves r (a .plan .now)) e))
+    (c .strict-at2 .ensures .0 ∙ sym (ap (λ (r : Read). r .answer) e), c .strict-at2 .ensures .1 ∙ sym (ap (λ (r : Read). leaves r (a .plan .now)) e))
 
 pub framing-at-spec : {M : Type 1} → statement M
 framing-at-spec =
@@ -64,8 +64,8 @@ framing-at-spec =
     enum-known-value
     framing-row-requires
     returns
-    hub-at-requires
+    strict-at-requires
     enum-told
-    hub-at-requires-2
+    strict-at-requires-2
     returns-2
     returns-3)

@@ -28,7 +28,7 @@ one-before-requires c κs = search needs
 returns : tie.Need-returns
 returns c =
     let a = c .before .before .before .before .before .before .before .before .before .before .before .before .before .args in
-    let fig : Figures = record { frame = a .t; overhead = a .o; interrupt = a .d; framing = a .framing } in
+    let fig : Figures = record { frame = a .t; overhead = a .o; interrupt = a .d; framing = a .framing; strict = a .strict } in
     let x = c .before .before .before .before .before .before .before .before .before .x .given in
     let y = c .before .before .before .before .y .given in
     let e = hub-no-node (a .text .now) (length (a .text .now)) fig (a .c) (x .0 .0) (sym (c .before .before .before .before .before .before .before .before .before .before .before .root-at .ensures) ∙ x .1) (y .0 .0) (sym (c .before .before .before .before .before .before .root-reader .ensures .0) ∙ y .1) (c .before .if1 .taken) in
@@ -46,7 +46,7 @@ enum-known-line-2 c = search needs
 returns-2 : tie.Need-returns-2
 returns-2 c =
     let a = c .before .before .before .before .before .before .before .before .before .before .before .before .before .before .args in
-    let fig : Figures = record { frame = a .t; overhead = a .o; interrupt = a .d; framing = a .framing } in
+    let fig : Figures = record { frame = a .t; overhead = a .o; interrupt = a .d; framing = a .framing; strict = a .strict } in
     let x = c .before .before .before .before .before .before .before .before .before .before .x .given in
     let y = c .before .before .before .before .before .y .given in
     let e = hub-taken (a .text .now) (length (a .text .now)) fig (a .c) (x .0 .0) (sym (c .before .before .before .before .before .before .before .before .before .before .before .before .root-at .ensures) ∙ x .1) (y .0 .0) (sym (c .before .before .before .before .before .before .before .root-reader .ensures .0) ∙ y .1) (c .before .before .if1 .left) in
@@ -58,7 +58,7 @@ returns-2 c =
 returns-3 : tie.Need-returns-3
 returns-3 c =
     let a = c .before .before .before .before .before .before .before .before .before .before .args in
-    let fig : Figures = record { frame = a .t; overhead = a .o; interrupt = a .d; framing = a .framing } in
+    let fig : Figures = record { frame = a .t; overhead = a .o; interrupt = a .d; framing = a .framing; strict = a .strict } in
     let x = c .before .before .before .before .before .before .x .given in
     let y = c .before .line .given in
     let e = hub-stopped (a .text .now) (length (a .text .now)) fig (a .c) (x .0 .0) (sym (c .before .before .before .before .before .before .before .before .root-at .ensures) ∙ x .1) (y .0 .0) (y .0 .1 .0) (sym (c .before .before .before .root-reader .ensures .0) ∙ y .1) in
@@ -67,7 +67,7 @@ returns-3 c =
 returns-4 : tie.Need-returns-4
 returns-4 c =
     let a = c .before .before .before .before .before .args in
-    let fig : Figures = record { frame = a .t; overhead = a .o; interrupt = a .d; framing = a .framing } in
+    let fig : Figures = record { frame = a .t; overhead = a .o; interrupt = a .d; framing = a .framing; strict = a .strict } in
     let y = c .before .line2 .given in
     let e = root-stopped (a .text .now) (length (a .text .now)) fig (a .c) (y .0 .0) (y .0 .1 .0) (sym (c .before .before .before .root-at .ensures) ∙ y .1) in
     (sym (ap (λ (r : Read). r .answer) e), sym (ap (λ (r : Read). leaves r (a .plan .now)) e))

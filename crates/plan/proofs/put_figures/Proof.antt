@@ -1,5 +1,6 @@
--- `put_figures` meets its contract: six stores.
+-- `put_figures` meets its contract: seven stores.
 use Rattle.plan.specs.Tables.{putFigures}
+use Rattle.plan.proofs.PlanLaws.{byte-code}
 use borrow.Author.Needs.{needs}
 use Rattle.plan.proofs.put_figures.Statement.{statement}
 use Rattle.plan.proofs.put_figures.Tie as tie
@@ -34,9 +35,15 @@ cast-s-4 c = search needs
 element-write-s-6 : tie.Need-element-write-s-6
 element-write-s-6 c = search needs
 
+cast-s-5 : tie.Need-cast-s-5
+cast-s-5 c = search needs
+
+element-write-s-7 : tie.Need-element-write-s-7
+element-write-s-7 c = search needs
+
 returns : tie.Need-returns
 unfolding putFigures
-returns c = search needs
+returns c = search (needs, byte-code)
 
 pub put-figures-spec : {M : Type 1} → statement M
 put-figures-spec =
@@ -52,4 +59,6 @@ put-figures-spec =
     element-write-s-5
     cast-s-4
     element-write-s-6
+    cast-s-5
+    element-write-s-7
     returns)

@@ -1,7 +1,7 @@
--- The three figures, the framing's line and the root's `(hub`: the plans at each of these lines, and that a reading of them decides by
--- a line. Assumes nothing.
-use Prim.Native.Nat.{ℕ, suc, _+_, _≤_}
-use mathlib.Core.Path.{_≡_, refl, sym, ap, subst}
+-- The three figures and the framing's line: the plans at each of these lines, and that a reading of them decides by a line. Assumes
+-- nothing.
+use Prim.Native.Nat.{ℕ, _+_, _≤_}
+use mathlib.Core.Path.{_≡_, refl, sym, subst}
 use mathlib.Core.Bool.{Bool, true, false, _&&_, _||_, not}
 use mathlib.Core.List.{List, [], _∷_}
 use mathlib.Core.Option.{Option, none, some}
@@ -13,46 +13,23 @@ use Rattle.rules.specs.Plan.{longestIn}
 use Rattle.rules.proofs.Laws.Lengths.{longest-low}
 use Rattle.rules.proofs.Laws.Passes.{true-false, and-both}
 use Rattle.text.specs.Line.{Lines, ended}
-use Rattle.text.specs.Word.{isWord, startsWith}
-use Rattle.text.specs.Form.{drawForm, readForm, readBehind}
+use Rattle.text.specs.Form.{drawForm, readForm}
 use Rattle.text.specs.declared.Cursor.{Cursor}
-use Rattle.plan_tree.specs.declared.Kind.{Kind}
-use Rattle.plan_tree.specs.declared.Kind.the-variants.{Close, Node, Empty, Hub as HubKind, Other}
-use Rattle.plan_tree.specs.Kind.{kindOf, isHub, hub-word}
-use Rattle.plan.specs.Words.{frame-word, overhead-word, interrupt-word, framing-word}
+use Rattle.plan_tree.specs.Kind.{hub-word}
+use Rattle.plan.specs.Words.{frame-word, overhead-word, interrupt-word, framing-word, strict-word}
 use Rattle.plan.specs.Tables.{Figures}
-use Rattle.plan.specs.Reading.{Read, next, refusal, onLine, hubLines, begun, rootLine, figure, unlessRow, framingRow, framingLine, interruptLine, overheadLine, frameLine}
-use Rattle.plan_theory.specs.Tree.{node, Hub, close, port, drawHub, portsOf, nodesAt, nodesIn, hubsAt, hubsIn, levelsAt, levelsIn, widthsAt, widthsIn, fits, meant, goodFigures, goodFraming}
-use Rattle.plan_theory.specs.Behind.{linesIn}
-use Rattle.plan_theory.proofs.Tree.Room.{room-fits, fits-room}
-use Rattle.plan_theory.proofs.Tree.Figures.{good-ranges, ranges-good}
-use Rattle.plan_theory.proofs.Tree.Optional.{number, read-line, form-of}
-use Rattle.plan_theory.proofs.Tree.Trees.{Drawing, kind-line}
-use Rattle.plan_theory.proofs.First.Places.{Plans, Headed, Tied, Step, unformed, unframed, out-of-range}
-use Rattle.plan_theory.proofs.First.Deciding.{Decides, AtLine, says, goes, Starts, Place, decides}
-use Rattle.plan_theory.proofs.First.Tails.{HubPlans, Able}
-use Rattle.plan_theory.proofs.First.HubLines.{hub-decides}
+use Rattle.plan.specs.Reading.{Read, next, refusal, onLine, figure, unlessRow, strictLine, framingRow, framingLine, interruptLine, overheadLine, frameLine}
+use Rattle.plan_theory.specs.Tree.{drawHub, meant, stands, noNumber, drawOptional, goodFigures, goodFraming}
+use Rattle.plan_theory.proofs.Tree.Figures.{figures, good-ranges, ranges-good}
+use Rattle.plan_theory.proofs.Tree.Optional.{number, read-line, form-of, hub-not-framing, strict-not-framing, no-form-first}
+use Rattle.plan_theory.proofs.First.Places.{Plans, Headed, unformed, unframed, out-of-range}
+use Rattle.plan_theory.proofs.First.Deciding.{Decides, AtLine, says, Starts, decides}
 use Rattle.plan_theory.proofs.First.FormLines.{ByRow, no-row, by-row, FormPlans, at-form, no-form, OptionalPlans, optional-place}
-
--- the root's `(hub` and the tree behind it
-abbrev pub RootPlans : Figures → Plans
-RootPlans fig =
-    record {
-      What = Hub;
-      drawn = λ t r. ended hub-word (drawHub t r);
-      framed = λ t. goodFraming fig ≡ true;
-      good = λ t. goodFigures fig ≡ true;
-      fits = λ t. fits t ≡ true;
-      size = λ t. suc (linesIn t);
-      nodes = λ t. nodesIn t;
-    }
-
-abbrev pub figures : ℕ → ℕ → ℕ → ℕ → Figures
-figures T O D framing = record { frame = T; overhead = O; interrupt = D; framing = framing }
+use Rattle.plan_theory.proofs.First.Root.{StrictPlans, one-node, one-node-fits, strict-place}
 
 -- the framing's line, or none where framing 3 is meant
 abbrev pub FramingPlans : ℕ → ℕ → ℕ → Plans
-FramingPlans T O D = OptionalPlans number framing-word (λ o. RootPlans (figures T O D (meant 3 o)))
+FramingPlans T O D = OptionalPlans number framing-word (λ o. StrictPlans T O D (meant 3 o))
 
 abbrev pub InterruptPlans : ℕ → ℕ → Plans
 InterruptPlans T O = FormPlans number interrupt-word (λ D. FramingPlans T O D)
@@ -62,75 +39,6 @@ OverheadPlans T = FormPlans number overhead-word (λ O. InterruptPlans T O)
 
 abbrev pub WholePlans : Plans
 WholePlans = FormPlans number frame-word (λ T. OverheadPlans T)
-
--- one hub with one node fits
-one-node : Hub
-one-node = port node close
-
-one-node-fits : fits one-node ≡ true
-unfolding one-node fits portsOf widthsIn widthsAt hubsIn hubsAt nodesIn nodesAt levelsIn levelsAt
-one-node-fits = refl
-
--- the root's `(hub`
-module _ (fig : Figures) (framed : goodFraming fig ≡ true) (good : goodFigures fig ≡ true) where
-  root-tied : (t : Hub) → Tied (RootPlans fig) hub-word (HubPlans fig begun) t (t, tt)
-  root-tied t =
-      record {
-        drawn = λ r. refl;
-        framed = (λ g. g, λ g. g);
-        good = (λ g. g, λ g. g);
-        fits = (λ f. (fits-room t f, tt), λ r. room-fits t (r .0));
-        size = omega arith;
-        nodes = omega arith;
-      }
-
-  root-step : Step (RootPlans fig) hub-word (HubPlans fig begun)
-  root-step = record { down = λ t r after e. ((t, tt), root-tied t); up = λ v. (v .0, root-tied (v .0)) }
-
-  begun-able : Able begun
-  begun-able = record { ports = omega arith; nodes = omega arith; hubs = omega arith; levels = omega arith; around = tt }
-
-  root-starts : (c : Cursor) → Starts (RootPlans fig) (λ x. rootLine fig x c) c
-  unfolding rootLine
-  root-starts c =
-      record {
-        at-end = refl;
-        at-unended = λ l. refl;
-        begins = λ t r. (hub-word, drawHub t r, refl);
-        sized = λ t. omega arith;
-        what = one-node;
-        headed = (framed, good);
-        fits = one-node-fits;
-      }
-
-  module _ (c : Cursor) (rest : Lines) where
-    abbrev RootAt : List ℕ → Type 1
-    RootAt l = AtLine (RootPlans fig) (λ x. rootLine fig x c) c l rest
-
-    opened : RootAt hub-word
-    unfolding rootLine kindOf isWord
-    opened =
-        goes (HubPlans fig begun) root-step (λ x. hubLines fig x (next c hub-word) begun) (λ after. refl)
-        (hub-decides fig framed good rest (next c hub-word) begun begun-able)
-
-    not-opened : (l : List ℕ) → isHub (kindOf l) ≡ false → RootAt l
-    unfolding rootLine kindOf isWord
-    not-opened l h =
-        says 1 (λ after. rw h)
-        (unformed (RootPlans fig) l rest
-        (λ t r after e.
-        (let same : hub-word ≡ l = cc in
-        true-false (ap (λ (x : List ℕ). isHub (kindOf x)) (sym same)) h)))
-
-    root-line : (l : List ℕ) (kind : Kind) → kindOf l ≡ kind → Drawing kind l → RootAt l
-    root-line l Close k e = not-opened l (ap isHub k)
-    root-line l Node k e = not-opened l (ap isHub k)
-    root-line l Empty k e = not-opened l (ap isHub k)
-    root-line l HubKind k e = subst RootAt (sym e) opened
-    root-line l Other k e = not-opened l (ap isHub k)
-
-  root-place : (c : Cursor) → Place (RootPlans fig) (λ x. rootLine fig x c) c
-  root-place c = record { starts = root-starts c; at-line = λ l rest. root-line c rest l (kindOf l) refl (kind-line l) }
 
 -- A figure's line: what may follow each figure, of which a good one is in its range; some plan with a known framing may, and one
 -- that no row refuses; behind a figure in its range the reading decides.
@@ -197,49 +105,56 @@ module _ (word : List ℕ) (low high : ℕ) (Q : ℕ → Plans) (more : ℕ → 
       figure-decides : (ls : Lines) → Decides P reads ls (c .number)
       figure-decides ls = decides (record { starts = figure-starts; at-line = λ l rest. figure-line l rest (readForm word 1 l) refl }) ls
 
+-- the plan of one node without a line that may be missing
+abbrev plainest : (T O D : ℕ) → FramingPlans T O D .What
+plainest T O D = (none, tt, (none, tt, one-node))
+
 -- behind a good frame and a good overhead
 module _ (T O : ℕ) (low : 100000 ≤ T) (high : T ≤ 4000000) (o : O ≤ 50000) where
-  ranges : (D framing : ℕ) → longestIn framing + O ≤ D → D ≤ T → goodFigures (figures T O D framing) ≡ true
-  ranges D framing p q =
-      ranges-good (figures T O D framing) (record { frameLow = low; frameHigh = high; overheadHigh = o; interruptLow = p; interruptHigh = q })
+  ranges : (D framing : ℕ) → longestIn framing + O ≤ D → D ≤ T → (strict : Bool) → goodFigures (figures T O D framing strict) ≡ true
+  ranges D framing p q strict =
+      ranges-good (figures T O D framing strict) (record { frameLow = low; frameHigh = high; overheadHigh = o; interruptLow = p; interruptHigh = q })
 
   -- the framing's line, behind an interrupt time that framing 3 allows
   module _ (D : ℕ) (p : longestIn 3 + O ≤ D) (q : D ≤ T) where
     module _ (framing : ℕ) where
-      abbrev fig : Figures
-      fig = figures T O D framing
+      abbrev fig : Bool → Figures
+      fig strict = figures T O D framing strict
 
-      by-length : goodFraming fig ≡ true → (t : Bool) → ltb D (longestIn framing + O) ≡ t
-          → ByRow (RootPlans fig) (λ x c. rootLine fig x c) (if t then 2 else 0)
+      abbrev Q : Plans
+      Q = StrictPlans T O D framing
+
+      by-length : ((strict : Bool) → goodFraming (fig strict) ≡ true) → (t : Bool) → ltb D (longestIn framing + O) ≡ t
+          → ByRow Q (λ x c. strictLine T O D framing x c) (if t then 2 else 0)
       by-length f true h =
           by-row 2 refl
-          (out-of-range (RootPlans fig) one-node f
-          (λ t g. omega (arith, good-ranges fig g .interruptLow, ltb-true D (longestIn framing + O) h)))
+          (out-of-range Q (none, tt, one-node) (f false)
+          (λ w g. omega (arith, good-ranges (fig (stands (w .0))) g .interruptLow, ltb-true D (longestIn framing + O) h)))
       by-length f false h =
-          no-row (λ ls c. decides (root-place fig f (ranges D framing (ltb-false D (longestIn framing + O) h) q) c) ls)
+          no-row (λ ls c. decides (strict-place T O D framing f (ranges D framing (ltb-false D (longestIn framing + O) h) q) c) ls)
 
       by-number : (t : Bool) → (eqb framing 3 || eqb framing 5) ≡ t
-          → ByRow (RootPlans fig) (λ x c. rootLine fig x c) (if not t then 4 else (if ltb D (longestIn framing + O) then 2 else 0))
+          → ByRow Q (λ x c. strictLine T O D framing x c) (if not t then 4 else (if ltb D (longestIn framing + O) then 2 else 0))
       unfolding goodFraming
-      by-number true h = by-length h (ltb D (longestIn framing + O)) refl
-      by-number false h = by-row 4 refl (unframed (RootPlans fig) one-node (λ t f. true-false f h))
+      by-number true h = by-length (λ strict. h) (ltb D (longestIn framing + O)) refl
+      by-number false h = by-row 4 refl (unframed Q (none, tt, one-node) (λ w f. true-false f h))
 
-    -- the root's line is no framing's line
-    not-framing : (l : List ℕ) (ls after : Lines) → ended hub-word ls ≡ ended l after → readForm framing-word 1 l ≡ none
-    unfolding readForm readBehind startsWith
-    not-framing l ls after e =
-        let same : hub-word ≡ l = cc in
-        subst (λ (x : List ℕ). readForm framing-word 1 x ≡ none) same refl
+    -- neither `(strict)` nor the root's line is a framing's line
+    not-framing : (o : Option (Unit {0})) (ls after : Lines) (l : List ℕ)
+        → drawOptional strict-word noNumber o (ended hub-word ls) ≡ ended l after → readForm framing-word 1 l ≡ none
+    not-framing o ls after l e =
+        no-form-first framing-word 1 (drawOptional strict-word noNumber o (ended hub-word ls))
+        (strict-not-framing o (ended hub-word ls) (hub-not-framing ls)) l after e
 
     framing-decides : (ls : Lines) (c : Cursor) → Decides (FramingPlans T O D) (λ x. framingLine T O D x c) ls (c .number)
     unfolding framingLine goodFraming
     framing-decides ls c =
         decides
-        (optional-place number framing-word (λ o. RootPlans (figures T O D (meant 3 o))) (framingRow O D)
-        (λ framing x d. rootLine (figures T O D framing) x d) (λ x. rootLine (figures T O D 3) x c) c
+        (optional-place number framing-word (λ o. StrictPlans T O D (meant 3 o)) (framingRow O D)
+        (λ framing x d. strictLine T O D framing x d) (λ x. strictLine T O D 3 x c) c
         (record {
-          without = root-place (figures T O D 3) refl (ranges D 3 p q) c;
-          apart = λ t r after l e. not-framing l (drawHub t r) after e;
+          without = strict-place T O D 3 (λ strict. refl) (ranges D 3 p q) c;
+          apart = λ w r after l e. not-framing (w .0) (drawHub (w .2) r) after l e;
           behind = λ x. by-number x (eqb x 3 || eqb x 5) refl;
         })) ls
 
@@ -251,12 +166,12 @@ module _ (T O : ℕ) (low : 100000 ≤ T) (high : T ≤ 4000000) (o : O ≤ 5000
       (record {
         ranged = λ D w g.
             (let framing = meant 3 (w .0) in
-            let r = good-ranges (figures T O D framing) g in
+            let r = good-ranges (figures T O D framing (stands (w .2 .0))) g in
             (omega (arith, r .interruptLow, longest-low framing), r .interruptHigh));
-        any = λ D. (none, tt, one-node);
+        any = λ D. plainest T O D;
         framed = λ D. refl;
-        clean = (T, (omega arith, tt), (none, tt, one-node));
-        headed = (refl, ranges T 3 (omega arith) (omega arith));
+        clean = (T, (omega arith, tt), plainest T O T);
+        headed = (refl, ranges T 3 (omega arith) (omega arith) false);
         fits = one-node-fits;
         decides-behind = λ D p q ls c. framing-decides D p q ls c;
       }) c ls
@@ -267,11 +182,11 @@ unfolding overheadLine goodFraming
 overhead-decides T low high ls c =
     figure-decides overhead-word 0 50000 (λ O. InterruptPlans T O) (λ O x d. interruptLine T O x d)
     (record {
-      ranged = λ O w g. (let r = good-ranges (figures T O (w .0) (meant 3 (w .2 .0))) g in (omega arith, r .overheadHigh));
-      any = λ O. (0, (omega arith, tt), (none, tt, one-node));
+      ranged = λ O w g. (let r = good-ranges (figures T O (w .0) (meant 3 (w .2 .0)) (stands (w .2 .2 .0))) g in (omega arith, r .overheadHigh));
+      any = λ O. (0, (omega arith, tt), plainest T O 0);
       framed = λ O. refl;
-      clean = (0, (omega arith, tt), (T, (omega arith, tt), (none, tt, one-node)));
-      headed = (refl, ranges T 0 low high (omega arith) T 3 (omega arith) (omega arith));
+      clean = (0, (omega arith, tt), (T, (omega arith, tt), plainest T 0 T));
+      headed = (refl, ranges T 0 low high (omega arith) T 3 (omega arith) (omega arith) false);
       fits = one-node-fits;
       decides-behind = λ O p q ls c. interrupt-decides T O low high q ls c;
     }) c ls
@@ -282,11 +197,11 @@ unfolding frameLine goodFraming
 frame-decides ls c =
     figure-decides frame-word 100000 4000000 (λ T. OverheadPlans T) (λ T x d. overheadLine T x d)
     (record {
-      ranged = λ T w g. (let r = good-ranges (figures T (w .0) (w .2 .0) (meant 3 (w .2 .2 .0))) g in (r .frameLow, r .frameHigh));
-      any = λ T. (0, (omega arith, tt), (0, (omega arith, tt), (none, tt, one-node)));
+      ranged = λ T w g. (let r = good-ranges (figures T (w .0) (w .2 .0) (meant 3 (w .2 .2 .0)) (stands (w .2 .2 .2 .0))) g in (r .frameLow, r .frameHigh));
+      any = λ T. (0, (omega arith, tt), (0, (omega arith, tt), plainest T 0 0));
       framed = λ T. refl;
-      clean = (100000, (omega arith, tt), (0, (omega arith, tt), (100000, (omega arith, tt), (none, tt, one-node))));
-      headed = (refl, ranges 100000 0 (omega arith) (omega arith) (omega arith) 100000 3 (omega arith) (omega arith));
+      clean = (100000, (omega arith, tt), (0, (omega arith, tt), (100000, (omega arith, tt), plainest 100000 0 100000)));
+      headed = (refl, ranges 100000 0 (omega arith) (omega arith) (omega arith) 100000 3 (omega arith) (omega arith) false);
       fits = one-node-fits;
       decides-behind = λ T p q ls c. overhead-decides T p q ls c;
     }) c ls

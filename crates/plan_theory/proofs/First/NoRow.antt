@@ -7,9 +7,9 @@ use native.Mathlib.Omega.{arith}
 use Rattle.rules.proofs.Laws.Passes.{true-false}
 use Rattle.text.specs.Line.{Lines, ended, lines}
 use Rattle.text.specs.Form.{drawForm}
-use Rattle.plan.specs.Words.{frame-word, overhead-word, interrupt-word, framing-word}
+use Rattle.plan.specs.Words.{frame-word, overhead-word, interrupt-word, framing-word, strict-word}
 use Rattle.plan_tree.specs.Kind.{close-word, node-word, empty-word, hub-word}
-use Rattle.plan_theory.specs.Tree.{Port, node, empty, hub, Hub, close, port, drawPort, drawHub, figuresOf, oneNumber, drawOptional, draw, nodesIn}
+use Rattle.plan_theory.specs.Tree.{Port, node, empty, hub, Hub, close, port, drawPort, drawHub, figuresOf, oneNumber, noNumber, drawOptional, draw, nodesIn}
 use Rattle.plan_theory.specs.Behind.{linesAt, linesIn, linesOptional, linesOf}
 use Rattle.plan_theory.specs.Taken.{DrawnBy}
 use Rattle.plan_theory.specs.First.{firstLines, Formed, RowApplies, row-1, row-4, row-2, row-3, row-3-node}
@@ -71,17 +71,20 @@ plan-stays : (ls : Lines) (n : ℕ) (d : Formed ls n) → linesOf (d .fig) (d .t
 unfolding draw
 plan-stays ls n d e =
     let h : ℕ = linesIn (d .tree) + 0 in
-    let f : ℕ = linesOptional (d .fig .framing) + suc h in
+    let s : ℕ = linesOptional (d .fig .strict) + suc h in
+    let f : ℕ = linesOptional (d .fig .framing) + s in
     let root : Lines → Lines = λ x. ended hub-word (drawHub (d .tree) x) in
-    let framing : Lines → Lines = λ x. drawOptional framing-word oneNumber (d .fig .framing) (root x) in
+    let strict : Lines → Lines = λ x. drawOptional strict-word noNumber (d .fig .strict) (root x) in
+    let framing : Lines → Lines = λ x. drawOptional framing-word oneNumber (d .fig .framing) (strict x) in
     let interrupt : Lines → Lines = λ x. ended (drawForm interrupt-word (d .fig .interrupt ∷ [])) (framing x) in
     let overhead : Lines → Lines = λ x. ended (drawForm overhead-word (d .fig .overhead ∷ [])) (interrupt x) in
     let all : n ≡ suc (suc (suc f)) = omega arith in
     behind-line (drawForm frame-word (d .fig .frame ∷ [])) overhead (suc (suc f)) 0 (d .rest)
     (behind-line (drawForm overhead-word (d .fig .overhead ∷ [])) interrupt (suc f) 0 (d .rest)
     (behind-line (drawForm interrupt-word (d .fig .interrupt ∷ [])) framing f 0 (d .rest)
-    (behind-optional framing-word oneNumber (d .fig .framing) root (suc h) 0 (d .rest)
-    (behind-line hub-word (drawHub (d .tree)) h 0 (d .rest) (λ js s. hub-stays (d .tree) h 0 js (d .rest) refl s)) f refl))) ls
+    (behind-optional framing-word oneNumber (d .fig .framing) strict s 0 (d .rest)
+    (behind-optional strict-word noNumber (d .fig .strict) root (suc h) 0 (d .rest)
+    (behind-line hub-word (drawHub (d .tree)) h 0 (d .rest) (λ js same. hub-stays (d .tree) h 0 js (d .rest) refl same)) s refl) f refl))) ls
     (subst (λ (m : ℕ). firstLines m ls ≡ firstLines m (draw (d .fig) (d .tree) (d .rest))) all (d .drawn))
 
 module _ (text : List ℕ) (t : DrawnBy text) where

@@ -7,14 +7,16 @@ use native.Mathlib.Omega.{arith}
 use native.Mathlib.Numerals.{add-one}
 use borrow.Author.Tests.{leb-true, leb-false}
 use lib.Dec.{leb}
-use Rattle.rules.proofs.Laws.Passes.{Which, which, yes′, no′, true-false}
+use Rattle.rules.proofs.Laws.Passes.{Which, which, yes′, no′, true-false, unless}
 use Rattle.text.specs.Line.{Lines, nothing, unended, ended, lines, nextNumber}
 use Rattle.plan.specs.Reading.{frameLine, reading}
-use Rattle.plan_theory.specs.Tree.{Header, figuresOf, Hub, draw, fits, goodFigures, goodFraming}
+use Rattle.plan_theory.specs.Tree.{Header, figuresOf, meant, Hub, draw, fits, goodFigures, goodFraming}
 use Rattle.plan_theory.specs.Taken.{RefusedAt}
 use Rattle.plan_theory.specs.First.{firstLines, Formed, RowApplies, row-1, row-4, row-2, row-3, row-3-node, place, DecidedBy}
+use Rattle.plan_theory.proofs.Tree.Optional.{small-numberless}
 use Rattle.plan_theory.proofs.First.Places.{Headed, Follows, Says, says-1, says-4, says-2, says-3, says-3-node, Clean}
 use Rattle.plan_theory.proofs.First.Deciding.{later, Decides}
+use Rattle.plan_theory.proofs.First.Root.{StrictPlans}
 use Rattle.plan_theory.proofs.First.Header.{WholePlans, frame-decides}
 
 -- lines are counted one by one as long as 64 bits hold the count
@@ -27,10 +29,10 @@ later-sum (suc k) n h =
 
 -- the plans of the first line are the drawings
 abbrev headerOf : WholePlans .What → Header
-headerOf w = record { frame = w .0; overhead = w .2 .0; interrupt = w .2 .2 .0; framing = w .2 .2 .2 .0 }
+headerOf w = record { frame = w .0; overhead = w .2 .0; interrupt = w .2 .2 .0; framing = w .2 .2 .2 .0; strict = w .2 .2 .2 .2 .0 }
 
 abbrev treeOf : WholePlans .What → Hub
-treeOf w = w .2 .2 .2 .2
+treeOf w = w .2 .2 .2 .2 .2
 
 whole-drawn : (w : WholePlans .What) (rest : Lines) → WholePlans .drawn w rest ≡ draw (headerOf w) (treeOf w) rest
 unfolding draw
@@ -51,21 +53,19 @@ follows : (ls : Lines) (n : ℕ) → Formed ls n → Follows WholePlans ls n
 follows ls n d =
     let fig = d .fig in
     let s = d .small in
+    let strict : StrictPlans (fig .frame) (fig .overhead) (fig .interrupt) (meant 3 (fig .framing)) .What =
+    (fig .strict, small-numberless (fig .strict), d .tree) in
     let w : WholePlans .What =
-    (fig .frame, (s .0, tt), (fig .overhead, (s .1 .0, tt), (fig .interrupt, (s .1 .1 .0, tt), (fig .framing, s .1 .1 .1, d .tree)))) in
+    (fig .frame, (s .0, tt), (fig .overhead, (s .1 .0, tt), (fig .interrupt, (s .1 .1 .0, tt), (fig .framing, s .1 .1 .1, strict)))) in
     record { what = w; rest = d .rest; same = d .drawn ∙ sym (ap (firstLines n) (whole-drawn w (d .rest))) }
-
-not-true : (b : Bool) → (b ≡ true → ⊥) → b ≡ false
-not-true true h = absurd (h refl)
-not-true false h = refl
 
 -- the row that says no applies
 applies : (ls : Lines) (n k : ℕ) → Says WholePlans ls n k → RowApplies ls n k
 unfolding formed follows
 applies ls n k (says-1 h) = row-1 (λ d. h (follows ls n d))
-applies ls n k (says-4 d h) = row-4 (formed ls n d) (λ x. not-true (goodFraming (figuresOf (x .fig))) (h (follows ls n x)))
-applies ls n k (says-2 d f h) = row-2 (formed ls n d) (λ x. not-true (goodFigures (figuresOf (x .fig))) (h (follows ls n x)))
-applies ls n k (says-3 d g h) = row-3 (formed ls n d) (λ x. not-true (fits (x .tree)) (h (follows ls n x)))
+applies ls n k (says-4 d h) = row-4 (formed ls n d) (λ x. unless (goodFraming (figuresOf (x .fig))) (h (follows ls n x)))
+applies ls n k (says-2 d f h) = row-2 (formed ls n d) (λ x. unless (goodFigures (figuresOf (x .fig))) (h (follows ls n x)))
+applies ls n k (says-3 d g h) = row-3 (formed ls n d) (λ x. unless (fits (x .tree)) (h (follows ls n x)))
 applies ls n k (says-3-node d g s z) = row-3-node (formed ls n d) (omega arith) (omega arith)
 
 -- no earlier row applies to its line: row 1 to no line of a drawing, 4 to none with a known framing, and 2 to none with good figures

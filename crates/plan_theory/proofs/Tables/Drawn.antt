@@ -19,7 +19,7 @@ use Rattle.plan_theory.proofs.Tables.Shown.{HubShows, shown-hub}
 use Rattle.plan_theory.proofs.Tables.Above.{above, above-runs, runs-first, runs-last}
 use Rattle.plan_theory.proofs.Tables.Parts.{HubGood, HubHangs, NodeStands, Parts, join, only}
 use Rattle.plan_theory.proofs.Tables.Facts.{shown-ports, parts-hub, hub-told}
-use Rattle.plan_theory.proofs.Tables.Heads.{frame-is, overhead-is, interrupt-is, framing-is, nodes-is, hubs-is, figures-good}
+use Rattle.plan_theory.proofs.Tables.Heads.{frame-is, overhead-is, interrupt-is, framing-is, strict-is, nodes-is, hubs-is, figures-good}
 
 abbrev start : Filled
 start = record { nodes = 0; hubs = 1; tables = putRoot noTable }
@@ -53,22 +53,29 @@ module _ (fig : Figures) (x : Hub) where
       let h = filled x .hubs in
       let t = filled x .tables in
       let f = filled-full x in
-      record { frame = frame-is fig n h t f; overhead = overhead-is fig n h t f; interrupt = interrupt-is fig n h t f; framing = framing-is fig n h t f }
+      record {
+        frame = frame-is fig n h t f;
+        overhead = overhead-is fig n h t f;
+        interrupt = interrupt-is fig n h t f;
+        framing = framing-is fig n h t f;
+        strict = strict-is fig n h t f;
+      }
 
-  same : (a : ℕ) → 8 ≤ a → cell (tablesOf fig x) a ≡ cell (filled x .tables) a
+  -- a cell behind the figures is the tree's alone
+  pub tree-cell : (a : ℕ) → 8 ≤ a → cell (tablesOf fig x) a ≡ cell (filled x .tables) a
   unfolding tablesOf
-  same a b = figures-other (filled x .tables) fig (filled x .nodes) (filled x .hubs) a b
+  tree-cell a b = figures-other (filled x .tables) fig (filled x .nodes) (filled x .hubs) a b
 
   module _ (lim : HubRoom x 0 1 0 1) where
     level-one : cell (tablesOf fig x) (levelCell 1) ≡ 1
     level-one =
-        same (levelCell 1) (omega arith)
+        tree-cell (levelCell 1) (omega arith)
         ∙ kept-hub x 1 0 1 start (levelCell 1) (root-room x lim) (hub-later 0 1 1 3 (omega arith) (omega arith) (omega arith) (omega arith))
         (head-own 1 0 3 (omega arith) (omega arith))
         ∙ root-level noTable none-full
 
     shows : HubShows x (tablesOf fig x) 1 0 1 0 1
-    shows = shown-hub x (tablesOf fig x) 1 0 1 start (root-room x lim) start-full (λ a f w. same a (w .figures))
+    shows = shown-hub x (tablesOf fig x) 1 0 1 start (root-room x lim) start-full (λ a f w. tree-cell a (w .figures))
 
     pub ports-are : HubTold (planOf (tablesOf fig x)) x 1 0 0 1
     ports-are = hub-told x (tablesOf fig x) 1 0 1 0 1 (root-room x lim) shows

@@ -67,6 +67,7 @@ module _ (t : List ℕ) where
       let e3 = e 3 (omega arith) in
       let e4 = e 4 (omega arith) in
       let e5 = e 5 (omega arith) in
+      let e6 = e 6 (omega arith) in
       simp getD-set-other
 
 module _ (t : List ℕ) (full : length t ≡ cells) where

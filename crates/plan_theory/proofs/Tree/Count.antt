@@ -7,12 +7,12 @@ use lib.ListN.{drop}
 use Rattle.text.specs.Line.{Lines, ended, lines}
 use Rattle.text.specs.Form.{drawForm}
 use Rattle.text.specs.declared.Cursor.{Cursor}
-use Rattle.plan.specs.Words.{frame-word, overhead-word, interrupt-word, framing-word}
+use Rattle.plan.specs.Words.{frame-word, overhead-word, interrupt-word, framing-word, strict-word}
 use Rattle.plan_tree.specs.Kind.{close-word, node-word, empty-word, hub-word}
 use Rattle.plan_tree.specs.Tables.{putHub}
 use Rattle.plan.specs.Reading.{next}
-use Rattle.plan_theory.specs.Tree.{Header, oneNumber, Port, node, empty, hub, Hub, close, port, drawPort, drawHub, draw, nodesAt, nodesIn, hubsAt, hubsIn, Filled, fillPort, fillHub}
-use Rattle.plan_theory.specs.Behind.{linesAt, linesIn, linesOf, pastPort, pastHub, pastInterrupt, pastFigures, past}
+use Rattle.plan_theory.specs.Tree.{Header, oneNumber, noNumber, Port, node, empty, hub, Hub, close, port, drawPort, drawHub, draw, nodesAt, nodesIn, hubsAt, hubsIn, Filled, fillPort, fillHub}
+use Rattle.plan_theory.specs.Behind.{linesAt, linesIn, linesOf, pastPort, pastHub, pastInterrupt, pastFraming, pastFigures, past}
 use Rattle.plan.proofs.Reading.Agree.{first}
 use Rattle.plan_theory.proofs.Tree.Optional.{count-optional, behind-optional}
 
@@ -59,9 +59,11 @@ mutual
   count-hub (port x h) c = omega (arith, count-port x c, count-hub h (pastPort x c))
 
 pub count-lines : (fig : Header) (h : Hub) → past fig h .number ≡ min (1 + linesOf fig h) most
-unfolding past pastFigures pastInterrupt
+unfolding past pastFigures pastFraming pastInterrupt
 count-lines fig h =
-    omega (arith, count-hub h (next (pastFigures fig) hub-word), count-optional oneNumber framing-word (fig .framing) (pastInterrupt fig) (omega arith))
+    let framing = count-optional oneNumber framing-word (fig .framing) (pastInterrupt fig) (omega arith) in
+    let strict = count-optional noNumber strict-word (fig .strict) (pastFraming fig) (omega arith) in
+    omega (arith, count-hub h (next (pastFigures fig) hub-word))
 
 -- the lines at the cursor behind a drawing are those that follow it
 module _ (text : List ℕ) where
@@ -81,13 +83,14 @@ module _ (text : List ℕ) where
     behind-hub (port x h) c rest e = behind-hub h (pastPort x c) rest (behind-port x c (drawHub h rest) e)
 
   pub behind-draw : (fig : Header) (h : Hub) (rest : Lines) → lines text ≡ draw fig h rest → lines (drop (past fig h .at) text) ≡ rest
-  unfolding draw past pastFigures pastInterrupt
+  unfolding draw past pastFigures pastFraming pastInterrupt
   behind-draw fig h rest e =
       let c₀ : Cursor = record { at = 0; number = 1 } in
       let c₁ : Cursor = next c₀ (drawForm frame-word (fig .frame ∷ [])) in
       let c₂ : Cursor = next c₁ (drawForm overhead-word (fig .overhead ∷ [])) in
       behind-hub h (next (pastFigures fig) hub-word) rest
       (behind-line (pastFigures fig) hub-word _
+      (behind-optional noNumber strict-word text (fig .strict) (pastFraming fig) _
       (behind-optional oneNumber framing-word text (fig .framing) (pastInterrupt fig) _
       (behind-line c₂ (drawForm interrupt-word (fig .interrupt ∷ [])) _
-      (behind-line c₁ (drawForm overhead-word (fig .overhead ∷ [])) _ (behind-line c₀ (drawForm frame-word (fig .frame ∷ [])) _ e)))))
+      (behind-line c₁ (drawForm overhead-word (fig .overhead ∷ [])) _ (behind-line c₀ (drawForm frame-word (fig .frame ∷ [])) _ e))))))

@@ -2,7 +2,7 @@
 -- is taken for that very tree, whatever follows it. Assumes nothing.
 use Prim.Native.Nat.{ℕ, _+_, _≤_, _<_, _^_}
 use mathlib.Core.Path.{_≡_, refl, sym, ap, _∙_, subst}
-use mathlib.Core.Bool.{true}
+use mathlib.Core.Bool.{Bool, true, false}
 use mathlib.Core.List.{List, []}
 use native.Mathlib.Omega.{arith}
 use lib.ListN.{drop}
@@ -13,44 +13,51 @@ use Rattle.text.specs.Word.{isWord}
 use Rattle.text.specs.declared.Cursor.{Cursor}
 use Rattle.plan.specs.declared.Answer.the-variants.{Taken}
 use Rattle.plan_tree.specs.Kind.{kindOf, hub-word}
-use Rattle.plan.specs.Words.{frame-word, overhead-word, interrupt-word, framing-word}
+use Rattle.plan.specs.Words.{frame-word, overhead-word, interrupt-word, framing-word, strict-word}
 use Rattle.plan_tree.specs.Tables.{noTable, putRoot}
 use Rattle.plan.specs.Tables.{Figures, planOf}
-use Rattle.plan.specs.Reading.{Read, next, framingRow, rootLine, framingLine, interruptLine, overheadLine, frameLine, reading}
-use Rattle.plan_theory.specs.Tree.{Header, figuresOf, Hub, draw, drawHub, nodesIn, hubsIn, limits, goodFigures, goodFraming, Filled, filled, tablesOf}
-use Rattle.plan_theory.specs.Behind.{linesOf, pastInterrupt, pastFigures, past}
+use Rattle.plan.specs.Reading.{Read, next, framingRow, rootLine, strictLine, framingLine, interruptLine, overheadLine, frameLine, reading}
+use Rattle.plan_theory.specs.Tree.{Header, figuresOf, meant, noNumber, drawOptional, Hub, draw, drawHub, nodesIn, hubsIn, limits, goodFigures, goodFraming, Filled, filled, tablesOf}
+use Rattle.plan_theory.specs.Behind.{linesOf, pastInterrupt, pastFraming, pastFigures, past}
 use Rattle.plan_theory.specs.Taken.{FiguresTold, HubTold, TakenFor}
 use Rattle.plan_theory.proofs.Tables.Drawn.{figures-are, ports-are}
 use Rattle.plan_theory.proofs.Tree.Room.{limits-room}
 use Rattle.plan_theory.proofs.Tree.Count.{nodes-in, hubs-in, count-lines, behind-draw}
 use Rattle.plan_theory.proofs.Tree.Drawn.{shut, hub-drawn}
 use Rattle.plan_theory.proofs.Tree.Figures.{good-ranges, framing-small, no-row, figure-drawn}
-use Rattle.plan_theory.proofs.Tree.Optional.{number, hub-begins, optional-drawn, small-meant, row-meant, reads-meant}
+use Rattle.plan_theory.proofs.Tree.Optional.{number, numberless, hub-not-framing, hub-not-strict, strict-not-framing, optional-drawn, small-numberless, row-numberless, reads-stands, small-meant, row-meant, reads-meant}
 
 module _
     (fig : Header) (h : Hub) (rest : Lines) (good : goodFigures (figuresOf fig) ≡ true) (framed : goodFraming (figuresOf fig) ≡ true) (within : limits h ≡ true)
   where
-    abbrev meaning : ℕ → Figures
-    meaning = λ framing. record { frame = fig .frame; overhead = fig .overhead; interrupt = fig .interrupt; framing = framing }
+    abbrev meaning : ℕ → Bool → Figures
+    meaning = λ framing strict. record { frame = fig .frame; overhead = fig .overhead; interrupt = fig .interrupt; framing = framing; strict = strict }
 
     reading-drawn : (text : List ℕ) → lines text ≡ draw fig h rest → reading text ≡ shut (figuresOf fig) [] rest (past fig h) (filled h)
-    unfolding reading frameLine overheadLine interruptLine framingLine rootLine draw past pastFigures pastInterrupt kindOf isWord
+    unfolding reading frameLine overheadLine interruptLine framingLine strictLine rootLine draw past pastFigures pastFraming pastInterrupt kindOf isWord
     reading-drawn text e =
         let r = good-ranges (figuresOf fig) good in
         let l = limits-room h within in
         let s : Filled = record { nodes = 0; hubs = 1; tables = putRoot noTable } in
         let low : longestIn 3 + fig .overhead ≤ fig .interrupt = omega (arith, r .interruptLow, longest-low (figuresOf fig .framing)) in
         let row : ℕ → ℕ = framingRow (fig .overhead) (fig .interrupt) in
-        let more : ℕ → Lines → Cursor → Read = λ x ls c. rootLine (meaning x) ls c in
-        let free : row 3 ≡ 0 = no-row (meaning 3) (unfold goodFraming in refl) low in
+        let F : ℕ = meant 3 (fig .framing) in
+        let more : ℕ → Lines → Cursor → Read = λ x ls c. strictLine (fig .frame) (fig .overhead) (fig .interrupt) x ls c in
+        let root : Bool → Lines → Cursor → Read = λ strict ls c. rootLine (meaning F strict) ls c in
+        let tree : Lines = ended hub-word (drawHub h rest) in
+        let behind : Lines = drawOptional strict-word noNumber (fig .strict) tree in
+        let free : row 3 ≡ 0 = no-row (meaning 3 false) (unfold goodFraming in refl) low in
         ap (λ (ls : Lines). frameLine ls (record { at = 0; number = 1 })) e
         ∙ figure-drawn frame-word (fig .frame) 100000 4000000 _ _ (r .frameLow) (r .frameHigh) (omega (arith, r))
         ∙ figure-drawn overhead-word (fig .overhead) 0 50000 _ _ (omega arith) (r .overheadHigh) (omega (arith, r))
         ∙ figure-drawn interrupt-word (fig .interrupt) (longestIn 3 + fig .overhead) (fig .frame) _ _ low (r .interruptHigh) (omega (arith, r))
-        ∙ optional-drawn number framing-word row more (more 3) (fig .framing) (ended hub-word (drawHub h rest)) (pastInterrupt fig)
-        (hub-begins (drawHub h rest)) (small-meant 3 (fig .framing) (framing-small (figuresOf fig) framed))
+        ∙ optional-drawn number framing-word row more (more 3) (fig .framing) behind (pastInterrupt fig)
+        (strict-not-framing (fig .strict) tree (hub-not-framing (drawHub h rest))) (small-meant 3 (fig .framing) (framing-small (figuresOf fig) framed))
         (row-meant 3 row free (fig .framing) .1 (no-row (figuresOf fig) framed (r .interruptLow)))
-        ∙ reads-meant 3 more (fig .framing) (ended hub-word (drawHub h rest)) (pastFigures fig)
+        ∙ reads-meant 3 more (fig .framing) behind (pastFraming fig)
+        ∙ optional-drawn numberless strict-word (λ x. 0) (λ x. root true) (root false) (fig .strict) tree (pastFraming fig)
+        (hub-not-strict (drawHub h rest)) (small-numberless (fig .strict)) (row-numberless (fig .strict))
+        ∙ reads-stands root (fig .strict) tree (pastFigures fig)
         ∙ hub-drawn (figuresOf fig) h (record { hub = 1; ports = 0 }) [] 1 s (next (pastFigures fig) hub-word) rest refl (l .0) (omega (arith, l .1))
 
     pub drawn-taken : (text : List ℕ) → lines text ≡ draw fig h rest → TakenFor text fig h rest

@@ -2,7 +2,7 @@
 -- a figure's line read from its drawing. Assumes nothing.
 use Prim.Native.Nat.{ℕ, _+_, _≤_, _<_, _^_}
 use mathlib.Core.Path.{_≡_, refl, sym}
-use mathlib.Core.Bool.{true, _&&_}
+use mathlib.Core.Bool.{Bool, true, _&&_}
 use mathlib.Core.List.{List, [], _∷_}
 use native.Mathlib.Omega.{arith}
 use borrow.Author.Tests.{leb-true, le-leb}
@@ -17,6 +17,10 @@ use Rattle.plan.specs.Tables.{Figures}
 use Rattle.plan.specs.Reading.{Read, figure, framingRow}
 use Rattle.plan.proofs.PlanLaws.{row-none, row-passed, known-small}
 use Rattle.plan_theory.specs.Tree.{goodFigures, goodFraming}
+
+-- the figures that the header's lines say, one by one
+abbrev pub figures : ℕ → ℕ → ℕ → ℕ → Bool → Figures
+figures T O D framing strict = record { frame = T; overhead = O; interrupt = D; framing = framing; strict = strict }
 
 -- the ranges of document 01
 pub record Ranges (fig : Figures) : Type 0 where
@@ -77,7 +81,11 @@ pub figure-drawn : (word : List ℕ) (n low high : ℕ) (c : Cursor) (more : ℕ
     → figure (readForm word 1 (drawForm word (n ∷ []))) low high c more ≡ more n
 figure-drawn word n low high c more a b small = rw (read-drawn word (n ∷ []) (small, tt), le-leb low n a, le-leb n high b)
 
--- a list of one number
+-- a list of no number, and of one
+pub no-numbers : (ns : List ℕ) → length ns ≡ 0 → ns ≡ []
+no-numbers [] e = refl
+no-numbers (a ∷ ns) e = absurd (omega arith)
+
 pub one-number : (ns : List ℕ) → length ns ≡ 1 → ns ≡ getD ns 0 0 ∷ []
 one-number [] e = absurd (omega arith)
 one-number (a ∷ []) e = refl

@@ -9,11 +9,11 @@ use lib.ListN.{length}
 use Rattle.rules.proofs.Laws.Passes.{true-false}
 use Rattle.text.specs.Line.{Lines, nothing, unended, ended, lines}
 use Rattle.text.specs.Form.{drawForm, Small}
-use Rattle.plan.specs.Words.{frame-word, overhead-word, interrupt-word, framing-word}
+use Rattle.plan.specs.Words.{frame-word, overhead-word, interrupt-word, framing-word, strict-word}
 use Rattle.plan_tree.specs.Kind.{close-word, hub-word}
 use Rattle.plan_theory.specs.Tree.{Header, figuresOf, oneNumber, drawOptional, Port, node, empty, hub, Hub, close, port, drawPort, drawHub, draw}
 use Rattle.plan_theory.proofs.Tree.Figures.{good-ranges, framing-small}
-use Rattle.plan_theory.proofs.Tree.Optional.{Numbers, number, begins, hub-begins, drawn-begins, one-line, small-meant}
+use Rattle.plan_theory.proofs.Tree.Optional.{Numbers, number, numberless, begins, hub-not-framing, hub-not-strict, strict-not-framing, drawn-begins, one-line, small-meant, small-numberless}
 use Rattle.plan_theory.specs.Taken.{DrawnBy}
 use Rattle.plan_theory.specs.First.{numbersOf}
 
@@ -83,6 +83,7 @@ record SameLines (f g : Header) (t u : Hub) (ls ks : Lines) : Type 0 where
   overhead : drawForm overhead-word (f .overhead ∷ []) ≡ drawForm overhead-word (g .overhead ∷ [])
   interrupt : drawForm interrupt-word (f .interrupt ∷ []) ≡ drawForm interrupt-word (g .interrupt ∷ [])
   framing : Small (numbersOf oneNumber (f .framing)) → Small (numbersOf oneNumber (g .framing)) → f .framing ≡ g .framing
+  strict : f .strict ≡ g .strict
   tree : t ≡ u
   rest : ls ≡ ks
 
@@ -94,13 +95,17 @@ same-lines f g t u ls ks e =
     let interrupt = split _ _ _ _ (overhead .1) in
     let a : Lines = drawHub t ls in
     let b : Lines = drawHub u ks in
-    let framing = same-optional number framing-word (f .framing) (g .framing) (ended hub-word a) (ended hub-word b) (hub-begins a) (hub-begins b) (interrupt .1) in
-    let tree = one-hub t u ls ks (split hub-word hub-word a b (framing .rest) .1) in
+    let p = strict-not-framing (f .strict) (ended hub-word a) (hub-not-framing a) in
+    let q = strict-not-framing (g .strict) (ended hub-word b) (hub-not-framing b) in
+    let framing = same-optional number framing-word (f .framing) (g .framing) _ _ p q (interrupt .1) in
+    let strict = same-optional numberless strict-word (f .strict) (g .strict) _ _ (hub-not-strict a) (hub-not-strict b) (framing .rest) in
+    let tree = one-hub t u ls ks (split hub-word hub-word a b (strict .rest) .1) in
     record {
       frame = frame .0;
       overhead = overhead .0;
       interrupt = interrupt .0;
       framing = framing .value;
+      strict = strict .value (small-numberless (f .strict)) (small-numberless (g .strict));
       tree = tree .0;
       rest = tree .1;
     }
@@ -125,4 +130,8 @@ one-drawing text d k =
     let small : (x : DrawnBy text) → Small (numbersOf oneNumber (x .fig .framing)) =
     λ x. small-meant 3 (x .fig .framing) (framing-small (figuresOf (x .fig)) (x .framed)) in
     let F = l .framing (small d) (small k) in
-    record { fig = λ i. record { frame = T i; overhead = O i; interrupt = D i; framing = F i }; tree = l .tree; rest = l .rest }
+    record {
+      fig = λ i. record { frame = T i; overhead = O i; interrupt = D i; framing = F i; strict = l .strict i };
+      tree = l .tree;
+      rest = l .rest;
+    }

@@ -1,5 +1,5 @@
 -- A line of the header that may be missing, of any word and any numbers: how it is counted and passed by, and that it is
--- read from its drawing. What follows it must begin with another word, as the root's `(hub` does. Assumes nothing.
+-- read from its drawing. What follows it must begin with another word, as `(strict)` and the root's `(hub` do. Assumes nothing.
 use Prim.Native.Nat.{ℕ, _+_, _≤_, _<_, _^_, min}
 use mathlib.Core.Path.{_≡_, refl, sym, ap, _∙_, subst}
 use mathlib.Core.Bool.{Bool, true, false}
@@ -14,14 +14,16 @@ use Rattle.text.specs.Form.{drawNumbers, drawForm, readBehind, readForm, Small}
 use Rattle.text.specs.declared.Cursor.{Cursor}
 use Rattle.text.proofs.Words.{starts-append}
 use Rattle.text.proofs.Forms.{read-drawn, form-law}
-use Rattle.plan.specs.Words.{framing-word}
+use Rattle.plan.specs.Words.{framing-word, strict-word}
 use Rattle.plan_tree.specs.Kind.{hub-word}
 use Rattle.plan.specs.Reading.{Read, next, optional, unlessRow}
-use Rattle.plan_theory.specs.Tree.{meant, oneNumber, drawOptional}
+use Rattle.plan_theory.specs.Tree.{meant, stands, oneNumber, noNumber, drawOptional}
 use Rattle.plan_theory.specs.Behind.{linesOptional, pastOptional}
 use Rattle.plan_theory.specs.First.{numbersOf}
+use Rattle.plan.specs.AsBefore.{isForm, beginsWith}
 use Rattle.plan.proofs.Reading.Agree.{first}
-use Rattle.plan_theory.proofs.Tree.Figures.{one-number}
+use Rattle.plan.proofs.Reading.AsBefore.{absent-same}
+use Rattle.plan_theory.proofs.Tree.Figures.{no-numbers, one-number}
 
 -- what a form's numbers are: lists of this length, one for each of N
 pub record Numbers (N : Type 0) (count : ℕ) : Type 0 where
@@ -40,16 +42,30 @@ number =
       one = λ x y e. ap (λ (ns : List ℕ). getD ns 0 0) e;
     }
 
+-- no number: such a line says only that it stands
+abbrev pub numberless : Numbers (Unit {0}) 0
+numberless = record { list = noNumber; counted = λ x. refl; all = λ ns e. (tt, no-numbers ns e); one = λ x y e. refl }
+
 -- whether the first line begins with a word
 abbrev pub begins : List ℕ → Lines → Bool
 begins word nothing = false
 begins word (unended l) = false
 begins word (ended l rest) = startsWith word l
 
--- the root's `(hub` is no framing
-pub hub-begins : (rest : Lines) → begins framing-word (ended hub-word rest) ≡ false
+-- the root's `(hub` is neither a framing nor `(strict)`, and `(strict)`, or what stands there without it, is no framing
+pub hub-not-framing : (rest : Lines) → begins framing-word (ended hub-word rest) ≡ false
 unfolding startsWith
-hub-begins rest = refl
+hub-not-framing rest = refl
+
+pub hub-not-strict : (rest : Lines) → begins strict-word (ended hub-word rest) ≡ false
+unfolding startsWith
+hub-not-strict rest = refl
+
+pub strict-not-framing : (o : Option (Unit {0})) (rest : Lines) → begins framing-word rest ≡ false
+    → begins framing-word (drawOptional strict-word noNumber o rest) ≡ false
+unfolding startsWith drawForm
+strict-not-framing none rest e = e
+strict-not-framing (some x) rest e = refl
 
 module _ (word : List ℕ) where
   -- a line of the word begins with it, and one that doesn't is no form of it
@@ -61,11 +77,18 @@ module _ (word : List ℕ) where
   unfolding readForm readBehind
   no-form count l e = rw e
 
+  pub no-form-first : (count : ℕ) (ls : Lines) → begins word ls ≡ false → (l : List ℕ) (rest : Lines) → ls ≡ ended l rest → readForm word count l ≡ none
+  no-form-first count ls e l rest same = no-form count l (sym (ap (begins word) same) ∙ e)
+
+  -- so it is not found there, and passed by
+  pub not-found : (count : ℕ) (ls : Lines) → begins word ls ≡ false → beginsWith word count ls ≡ false
+  not-found count nothing e = refl
+  not-found count (unended l) e = refl
+  not-found count (ended l rest) e = ap isForm (no-form count l e)
+
   passed-by : (count : ℕ) (ls : Lines) (says : List ℕ → Lines → ℕ → Read) (absent : Read) → begins word ls ≡ false
       → optional word count ls says absent ≡ absent
-  passed-by count nothing says absent e = refl
-  passed-by count (unended l) says absent e = refl
-  passed-by count (ended l rest) says absent e = rw (no-form count l e)
+  passed-by count ls says absent e = absent-same word count ls says absent (not-found count ls e)
 
 module _ {N : Type 0} (numbers : N → List ℕ) where
   module _ (word : List ℕ) where
@@ -129,6 +152,20 @@ module _ {N : Type 0} {count : ℕ} (H : Numbers N count) (word : List ℕ) wher
         → optionalLine (drawOptional word (H .list) o rest) c ≡ readsOn (H .list) more absent o rest (pastOptional word (H .list) o c)
     optional-drawn none rest c other small passed = passed-by word count rest _ (absent rest c) other
     optional-drawn (some x) rest c other small passed = rw (read-line x small, passed)
+
+-- a line of no number is refused by no row, and tells only whether it stands
+pub small-numberless : (o : Option (Unit {0})) → Small (numbersOf noNumber o)
+small-numberless none = tt
+small-numberless (some x) = tt
+
+pub row-numberless : (o : Option (Unit {0})) → rowOf noNumber (λ x. 0) o ≡ 0
+row-numberless none = refl
+row-numberless (some x) = refl
+
+pub reads-stands : (more : Bool → Lines → Cursor → Read) (o : Option (Unit {0})) (ls : Lines) (c : Cursor)
+    → readsOn noNumber (λ x. more true) (more false) o ls c ≡ more (stands o) ls c
+reads-stands more none ls c = refl
+reads-stands more (some x) ls c = refl
 
 -- a line of one number, where `absent` is meant without it
 module _ (absent : ℕ) where

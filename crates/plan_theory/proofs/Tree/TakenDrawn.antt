@@ -22,19 +22,19 @@ use Rattle.plan_tree.specs.declared.Place.{Place}
 use Rattle.plan_tree.specs.declared.Part.{Part}
 use Rattle.plan_tree.specs.declared.Part.the-variants.{Read, Stopped}
 use Rattle.plan_tree.specs.Kind.{kindOf, hub-word, isHub}
-use Rattle.plan.specs.Words.{frame-word, overhead-word, interrupt-word, framing-word}
+use Rattle.plan.specs.Words.{frame-word, overhead-word, interrupt-word, framing-word, strict-word}
 use Rattle.plan_tree.specs.Tables.{noTable, putRoot}
 use Rattle.plan.specs.Reading as reading
 use Rattle.plan.specs.Tables.{Figures}
-use Rattle.plan.specs.Reading.{next, refusal, onLine, figure, optional, whereForm, unlessRow, framingRow, begun, hubLines, rootLine, framingLine, interruptLine, overheadLine, frameLine}
+use Rattle.plan.specs.Reading.{next, refusal, onLine, figure, optional, whereForm, unlessRow, framingRow, begun, hubLines, rootLine, strictLine, framingLine, interruptLine, overheadLine, frameLine}
 use Rattle.plan_tree.specs.Readers.{Answered, hubReader}
-use Rattle.plan_theory.specs.Tree.{Header, figuresOf, oneNumber, drawOptional, Hub, draw, drawHub, limits, goodFraming}
+use Rattle.plan_theory.specs.Tree.{Header, figuresOf, meant, oneNumber, noNumber, drawOptional, Hub, draw, drawHub, limits, goodFraming}
 use Rattle.plan_theory.specs.Taken.{DrawnBy}
 use Rattle.plan_theory.proofs.Tree.Room.{room-limits}
 use Rattle.plan.proofs.Reading.Agree.{first, over, hub-agrees}
 use Rattle.plan_theory.proofs.Tree.Trees.{Drawing, kind-line, HubRead, TreeRead, hub-tree}
-use Rattle.plan_theory.proofs.Tree.Figures.{ranges-good, no-row, good-row, one-number}
-use Rattle.plan_theory.proofs.Tree.Optional.{Numbers, number, told, rowOf, readsOn, lineOf, form-of, optionalLine, row-meant, reads-meant}
+use Rattle.plan_theory.proofs.Tree.Figures.{figures, ranges-good, no-row, good-row, one-number}
+use Rattle.plan_theory.proofs.Tree.Optional.{Numbers, number, numberless, told, rowOf, readsOn, lineOf, form-of, optionalLine, reads-stands, row-meant, reads-meant}
 
 module _ (n m at line : ℕ) where
   abbrev IsTaken : reading.Read → Type 0
@@ -227,32 +227,36 @@ module _ (text : List ℕ) (n m at line : ℕ) where
   InterruptRead T O =
       FigureRead n m at line text interrupt-word (longestIn 3 + O .value) (T .value) (O .behind) (λ D ls c. framingLine (T .value) (O .value) D ls c)
 
-  abbrev figures : ℕ → ℕ → ℕ → ℕ → Figures
-  figures T O D F = record { frame = T; overhead = O; interrupt = D; framing = F }
-
-  abbrev root-behind : (T : FrameRead) (O : OverheadRead T) → InterruptRead T O → ℕ → Lines → Cursor → reading.Read
-  root-behind T O D F ls c = rootLine (figures (T .value) (O .value) (D .value) F) ls c
+  abbrev strict-behind : (T : FrameRead) (O : OverheadRead T) → InterruptRead T O → ℕ → Lines → Cursor → reading.Read
+  strict-behind T O D F ls c = strictLine (T .value) (O .value) (D .value) F ls c
 
   abbrev FramingRead : (T : FrameRead) (O : OverheadRead T) → InterruptRead T O → Type 0
   FramingRead T O D =
-      OptionalRead n m at line number text framing-word (framingRow (O .value) (D .value)) (D .behind) (root-behind T O D) (root-behind T O D 3)
+      OptionalRead n m at line number text framing-word (framingRow (O .value) (D .value)) (D .behind) (strict-behind T O D) (strict-behind T O D 3)
+
+  abbrev root-behind : (T : FrameRead) (O : OverheadRead T) (D : InterruptRead T O) → FramingRead T O D → Bool → Lines → Cursor → reading.Read
+  root-behind T O D F strict ls c = rootLine (figures (T .value) (O .value) (D .value) (meant 3 (F .value)) strict) ls c
+
+  abbrev StrictRead : (T : FrameRead) (O : OverheadRead T) (D : InterruptRead T O) → FramingRead T O D → Type 0
+  StrictRead T O D F =
+      OptionalRead n m at line numberless text strict-word (λ x. 0) (F .behind) (λ x. root-behind T O D F true) (root-behind T O D F false)
 
   -- the header of the lines that were read
-  abbrev header : (T : FrameRead) (O : OverheadRead T) (D : InterruptRead T O) → FramingRead T O D → Header
-  header T O D F = record { frame = T .value; overhead = O .value; interrupt = D .value; framing = F .value }
+  abbrev header : (T : FrameRead) (O : OverheadRead T) (D : InterruptRead T O) (F : FramingRead T O D) → StrictRead T O D F → Header
+  header T O D F S = record { frame = T .value; overhead = O .value; interrupt = D .value; framing = F .value; strict = S .value }
 
   -- without its line the framing is 3, for which the interrupt's own range is enough
-  all-drawn : (T : FrameRead) (O : OverheadRead T) (D : InterruptRead T O) (F : FramingRead T O D)
-      → RootRead n m at line text (figuresOf (header T O D F)) (F .behind .at) → DrawnBy text
+  all-drawn : (T : FrameRead) (O : OverheadRead T) (D : InterruptRead T O) (F : FramingRead T O D) (S : StrictRead T O D F)
+      → RootRead n m at line text (figuresOf (header T O D F S)) (S .behind .at) → DrawnBy text
   unfolding draw
-  all-drawn T O D F h =
-      let free = no-row (figures (T .value) (O .value) (D .value) 3) (unfold goodFraming in refl) (D .above) in
-      let p = good-row (figuresOf (header T O D F)) (row-meant 3 (framingRow (O .value) (D .value)) free (F .value) .0 (F .passed)) in
+  all-drawn T O D F S h =
+      let free = no-row (figures (T .value) (O .value) (D .value) 3 false) (unfold goodFraming in refl) (D .above) in
+      let p = good-row (figuresOf (header T O D F S)) (row-meant 3 (framingRow (O .value) (D .value)) free (F .value) .0 (F .passed)) in
       record {
-        fig = header T O D F;
+        fig = header T O D F S;
         tree = h .tree;
         rest = h .rest;
-        good = ranges-good (figuresOf (header T O D F)) (record {
+        good = ranges-good (figuresOf (header T O D F S)) (record {
           frameLow = T .above;
           frameHigh = T .below;
           overheadHigh = O .below;
@@ -266,14 +270,25 @@ module _ (text : List ℕ) (n m at line : ℕ) where
             ∙ ap (ended (drawForm frame-word (T .value ∷ [])))
             (O .drawn
             ∙ ap (ended (drawForm overhead-word (O .value ∷ [])))
-            (D .drawn ∙ ap (ended (drawForm interrupt-word (D .value ∷ []))) (F .drawn ∙ ap (drawOptional framing-word oneNumber (F .value)) (h .drawn))));
+            (D .drawn
+            ∙ ap (ended (drawForm interrupt-word (D .value ∷ [])))
+            (F .drawn
+            ∙ ap (drawOptional framing-word oneNumber (F .value)) (S .drawn ∙ ap (drawOptional strict-word noNumber (S .value)) (h .drawn)))));
       }
 
+  strict-drawn : (T : FrameRead) (O : OverheadRead T) (D : InterruptRead T O) (F : FramingRead T O D) → StrictRead T O D F → DrawnBy text
+  strict-drawn T O D F S =
+      let same = reads-stands (root-behind T O D F) (S .value) (lines (drop (S .behind .at) text)) (S .behind) in
+      all-drawn T O D F S
+      (root-taken n m at line text (figuresOf (header T O D F S)) (S .behind) (S .early) (sym (ap (λ (r : reading.Read). r .answer) same) ∙ S .taken))
+
   framing-drawn : (T : FrameRead) (O : OverheadRead T) (D : InterruptRead T O) → FramingRead T O D → DrawnBy text
+  unfolding strictLine
   framing-drawn T O D F =
-      let same = reads-meant 3 (root-behind T O D) (F .value) (lines (drop (F .behind .at) text)) (F .behind) in
-      all-drawn T O D F
-      (root-taken n m at line text (figuresOf (header T O D F)) (F .behind) (F .early) (sym (ap (λ (r : reading.Read). r .answer) same) ∙ F .taken))
+      let same = reads-meant 3 (strict-behind T O D) (F .value) (lines (drop (F .behind .at) text)) (F .behind) in
+      strict-drawn T O D F
+      (optional-taken n m at line numberless text strict-word (λ x. 0) (F .behind) (λ x. root-behind T O D F true) (root-behind T O D F false) (F .early)
+      (sym (ap (λ (r : reading.Read). r .answer) same) ∙ F .taken))
 
   interrupt-drawn : (T : FrameRead) (O : OverheadRead T) → InterruptRead T O → DrawnBy text
   unfolding framingLine

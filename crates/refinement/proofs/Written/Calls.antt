@@ -8,18 +8,18 @@ use lib.Dec.{ltb, eqb}
 use borrow.Author.Tests.{le-ltb}
 use Rattle.rules.specs.Plan.{Plan}
 use Rattle.rules.specs.Call.{Call, ask, off, reserve, until, step, time}
-use Rattle.rules.specs.Core.{standing, frameOf}
+use Rattle.rules.specs.Core.{frameOf}
 use Rattle.rules.proofs.Laws.Passes.{Which, which, yes′, no′}
 use Rattle.cells.specs.declared.Due.{Due}
 use Rattle.cells.specs.declared.Due.the-variants.{At, Never}
 use Rattle.cells.specs.declared.Sought.{Sought}
 use Rattle.cells.specs.declared.Sought.the-variants as seek
-use Rattle.cells.specs.Layout.{clock-cell, timeAt, requestCode}
+use Rattle.cells.specs.Layout.{clock-cell, timeAt}
 use Rattle.cells.specs.Decode.{planIn}
 use Rattle.cells.specs.Frames.{newFrame, advanceBy}
 use Rattle.cells.specs.Instants.{dueBy, soughtBy}
 use Rattle.cells.specs.Turns.{chooseBy}
-use Rattle.cells.specs.Calls.{rowBy, grantBy, restBy, handledBy, stepDue, stepBy, eventAnswer, stepAnswer, eventLeft, performBy}
+use Rattle.cells.specs.Calls.{rowBy, putUpCode, grantBy, restBy, handledBy, stepDue, stepBy, eventAnswer, stepAnswer, eventLeft, performBy}
 use Rattle.cells.specs.Written.{advanceWrites, changeWrites, eventWrites, grantWrites, handledWrites, stepDueWrites, stepWrites, callWrites}
 use Rattle.refinement.specs.Kept.{Ready}
 use Rattle.refinement.specs.Written.{mostBy, mostAtStart, frameIn, FewWrites}
@@ -62,7 +62,7 @@ module _ (P : List ℕ) (R : Ready P) (s : List ℕ) where
 
   change-few : (call : Call) (r : List ℕ) → Named p call → changeWrites P call r ≤ mostBy p call
   unfolding changeWrites
-  change-few (ask c t k b) r w = omega (arith, request-few P R k w (requestCode (standing c b)) r)
+  change-few (ask c t k b) r w = omega (arith, request-few P R k w (putUpCode c k b r) r)
   change-few (off t k) r w = omega (arith, removal-few P R k w r)
   change-few (reserve t k n b) r w = omega arith
   change-few (until t) r w = omega arith

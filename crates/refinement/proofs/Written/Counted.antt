@@ -12,7 +12,6 @@ use Rattle.rules.specs.Plan.{Port, node, empty, hub, most-levels, most-hubs}
 use Rattle.rules.specs.Control.{most-looks}
 use Rattle.rules.specs.Drawn.{Within}
 use Rattle.rules.specs.Call.{Call, ask, off, reserve, until, step, time}
-use Rattle.rules.specs.Core.{standing}
 use Rattle.rules.proofs.Laws.Passes.{Which, which, yes′, no′}
 use Rattle.ports.specs.Ports.{withPort, anyPort}
 use Rattle.ports.specs.Mask.{shows, maskOf, digit}
@@ -27,14 +26,14 @@ use Rattle.cells.specs.declared.Due.{Due}
 use Rattle.cells.specs.declared.Due.the-variants.{At, Never}
 use Rattle.cells.specs.declared.Sought.{Sought}
 use Rattle.cells.specs.declared.Sought.the-variants as seek
-use Rattle.cells.specs.Layout.{clock-cell, end-cell, busy-cell, holder-cell, class-cell, standing-cell, maskCell, pointerCell, requestCell, forceCell, latestCell, grantedCell, putTime, requestCode, shareCode, unmarkedCode, markedCode}
+use Rattle.cells.specs.Layout.{clock-cell, end-cell, busy-cell, holder-cell, class-cell, standing-cell, maskCell, pointerCell, requestCell, forceCell, latestCell, grantedCell, putTime, shareCode, unmarkedCode, markedCode}
 use Rattle.cells.specs.Decode.{planIn}
 use Rattle.cells.specs.Masks.{stands, standsIn, countsBy, maskWith, alike, mend, mendBit, mendClass, standingAfter, putRequest, grantedMore, grantNode}
 use Rattle.cells.specs.Build.{clearMasks, showPort, showRequest, showNodes, summary, showHub, showHubs, hubsIn, buildMasks}
 use Rattle.cells.specs.Frames.{startCells, startNodes, startFrame, newFrame, advanceBy}
 use Rattle.cells.specs.Instants.{dueBy, soughtBy}
 use Rattle.cells.specs.Turns.{Looked, Turned, downBy, takeBy, upBy, handUpBy, foundBy, lookBy, afterLook, walkBy, turningBy, climbBy, walked, settled, chooseBy}
-use Rattle.cells.specs.Calls.{rowBy, changeBy, eventBy, busyUntil, resting, grantBy, restBy, handledBy, stepDue, stepBy, eventLeft, performBy}
+use Rattle.cells.specs.Calls.{rowBy, putUpCode, changeBy, eventBy, busyUntil, resting, grantBy, restBy, handledBy, stepDue, stepBy, eventLeft, performBy}
 use Rattle.cells.specs.Written.{mendWrites, mendBitWrites, mendClassWrites, putRequestWrites, grantNodeWrites, clearWrites, showPortWrites, showNodesWrites, showHubWrites, showHubsWrites, buildWrites, advanceWrites, changeWrites, eventWrites, grantWrites, handledWrites, stepDueWrites, stepWrites, callWrites}
 use Rattle.refinement.proofs.Same.{low-no-mask, node-no-mask, pointer-no-mask}
 use Rattle.refinement.proofs.Written.Changed.{Wrote, wrote-stay, wrote-off, wrote-then, wrote-behind, wrote-before, wrote-one, wrote-if, wrote-hub, wrote-node}
@@ -229,7 +228,7 @@ module _ (P : List ℕ) where
 
   change-counted : (call : Call) (s : List ℕ) → Wrote (changeWrites P call s) s (changeBy P call s)
   unfolding changeBy changeWrites
-  change-counted (ask c t k b) s = request-counted k (requestCode (standing c b)) s
+  change-counted (ask c t k b) s = request-counted k (putUpCode c k b s) s
   change-counted (off t k) s = request-counted k 0 s
   change-counted (reserve t k n b) s = wrote-off s (latestCell k) (shareCode n b) (node-no-mask k 2)
   change-counted (until t) s = wrote-stay

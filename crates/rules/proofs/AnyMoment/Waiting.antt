@@ -14,14 +14,14 @@ use Rattle.rules.specs.Call.{normal, high, Call, time, taken}
 use Rattle.rules.specs.Core.{Core, Request, none, standing, Share, frameOf, advance, reclassed, countsIn}
 use Rattle.rules.specs.Machine.{granting}
 use Rattle.rules.specs.Flat.{behind}
-use Rattle.rules.specs.Rows.{change}
+use Rattle.rules.specs.Rows.{putUp, change}
 use Rattle.rules.specs.Words.{Keeps}
 use Rattle.rules.specs.Promises.{Acceptable, asks, leaves, reserves, waits}
 use Rattle.rules.specs.AnyMoment.{breaks, waitPart, waitLimit}
 use Rattle.rules.proofs.Laws.Passes.{sum-mono, put-other}
 use Rattle.rules.proofs.Core.EventChanges.{kept-by-change}
 use Rattle.rules.proofs.Core.Instants.{Advanced, across, inside}
-use Rattle.rules.proofs.Core.Requests.{Start, stays-high, becomes-normal, start-of, counts-left, put-all}
+use Rattle.rules.proofs.Core.Requests.{Start, stays-high, becomes-normal, start-of, counts-left, put-all, reserved-high}
 use Rattle.rules.proofs.Core.Sound.{Sound}
 use Rattle.rules.proofs.Demand3.Standing.{high-counts, DueBefore}
 use Rattle.rules.proofs.Laws.Sums.{Same, it, other, same-or-not, more}
@@ -142,17 +142,19 @@ module _ (p : Plan) (k start : ℕ) (R : ℕ → Share) where
     another : (c : Core) (j : ℕ) (q : Request) → FittingHigh (c .request k) → (j ≡ k → ⊥) → FittingHigh (put (c .request) j q k)
     another c j q x d = subst FittingHigh (sym (put-other (c .request) j q k (λ i. d (sym i)))) x
 
-    replaced : (c : Core) (j b : ℕ) → c .force k ≡ R k → FittingHigh (c .request k) → b ≤ c .force j .bits → Same j k
-        → FittingHigh (put (c .request) j (standing high b) k)
-    replaced c j b same x fits (other d) = another c j (standing high b) x d
-    replaced c j b same x fits (it e) =
-        let in-force = ap (λ (r : Share). r .bits) (ap (c .force) e ∙ same) in
-        record { bits = b; is = rw (eq-eqb k j (sym e)); fits = omega arith }
+    replaced : (c : Core) (j b : ℕ) → c .force k ≡ R k → c .granted k < R k .packets → FittingHigh (c .request k)
+        → (1 ≤ c .force j .packets → b ≤ c .force j .bits) → Same j k → FittingHigh (put (c .request) j (standing (putUp (c .force j) high) b) k)
+    replaced c j b same left x fits (other d) = another c j (standing (putUp (c .force j) high) b) x d
+    replaced c j b same left x fits (it e) =
+        let packets = ap (λ (r : Share). r .packets) (ap (c .force) e ∙ same) in
+        let bits = ap (λ (r : Share). r .bits) (ap (c .force) e ∙ same) in
+        let some : 1 ≤ c .force j .packets = omega arith in
+        record { bits = b; is = rw (eq-eqb k j (sym e), reserved-high (c .force j) some); fits = omega (arith, fits some) }
 
     stays : {call : Call} → Acceptable p s call → Waiting G (advance p (time call) s) a → breaks k call taken ≡ false
         → FittingHigh (change call (advance p (time call) s) .request k)
     stays (asks normal t j b ok) x e = another (advance p t s) j (standing normal b) (x .stands) (eqb-false j k e)
-    stays (asks high t j b ok) x e = replaced (advance p t s) j b (x .force k w) (x .stands) (ok .share refl .fits) (same-or-not j k)
+    stays (asks high t j b ok) x e = replaced (advance p t s) j b (x .force k w) (x .left) (x .stands) (ok .share .fits refl) (same-or-not j k)
     stays (leaves t j o v) x e = another (advance p t s) j none (x .stands) (eqb-false j k e)
     stays (reserves t j n b ok) x e = x .stands
     stays (waits t o) x e = x .stands

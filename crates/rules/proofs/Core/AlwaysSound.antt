@@ -9,13 +9,13 @@ use Rattle.rules.specs.Plan.{Plan}
 use Rattle.rules.specs.Call.{Class, Call, time}
 use Rattle.rules.specs.Core.{Core, none, standing, fresh, advance, countsIn, Sought, class, sought, at, due}
 use Rattle.rules.specs.Drawn.{Figures}
-use Rattle.rules.specs.Rows.{loads, accept, firstRow, rows, change}
+use Rattle.rules.specs.Rows.{loads, accept, firstRow, rows, putUp, change}
 use Rattle.rules.specs.Machine.{Machine, Hub, Outcome}
-use Rattle.rules.specs.Words.{Keeps}
 use Rattle.rules.specs.Run.{made}
 use Rattle.rules.specs.Promises.{Askable, Acceptable, asks, leaves, reserves, waits}
 use Rattle.rules.proofs.Core.Acceptance.{acceptable}
 use Rattle.rules.proofs.Core.CallCases.{Event, in-time, not-due, Course, refusal, event, quietly, granting, resting, course}
+use Rattle.rules.proofs.Core.Requests.{put-up-high}
 use Rattle.rules.proofs.Core.Instants.{Seeking, seeks, none-counts, seeking}
 use Rattle.rules.proofs.Flat.Turns.{Pointed, pointed-start, pointed-rest, node-counts, pointed-turn}
 use Rattle.rules.proofs.Flat.Follows.{Follows}
@@ -26,10 +26,13 @@ use Rattle.rules.proofs.Laws.Clash.{clash}
 
 -- what an acceptable event leaves
 module _ (p : Plan) (s : Core) where
-  asked-proper : (c : Class) (t k b : ℕ) → Askable p s c t k b → Proper p (advance p t s .force k) k (standing c b)
+  asked-proper : (c : Class) (t k b : ℕ) → Askable p s c t k b → Proper p (advance p t s .force k) k (standing (putUp (advance p t s .force k) c) b)
   asked-proper c t k b a =
       record {
-        allowed = λ d f. (let g : b ≡ d = cc in subst (λ (x : ℕ). Keeps (advance p t s .force k) x) g (a .share (cc)));
+        allowed = λ d f.
+            (let g : b ≡ d = cc in
+            let up = put-up-high (advance p t s .force k) c (cc) in
+            record { some = up .1; fits = subst (λ (x : ℕ). x ≤ advance p t s .force k .bits) g (a .share .fits (up .0) (up .1)) });
         node = λ d x f. a .node;
         short = λ d x f. (let g : b ≡ d = cc in omega (arith, a .short));
         long = λ d x f. (let g : b ≡ d = cc in omega (arith, a .long));
@@ -37,7 +40,8 @@ module _ (p : Plan) (s : Core) where
 
   -- once the clock has come to its time
   event-sound : {call : Call} → Acceptable p s call → Sound p (advance p (time call) s) → Sound p (change call (advance p (time call) s))
-  event-sound (asks c t k b a) ok = request-sound p (advance p t s) ok k (standing c b) (asked-proper c t k b a)
+  event-sound (asks c t k b a) ok =
+      request-sound p (advance p t s) ok k (standing (putUp (advance p t s .force k) c) b) (asked-proper c t k b a)
   event-sound (leaves t k o w) ok = request-sound p (advance p t s) ok k none (none-proper p (advance p t s .force k) k)
   event-sound (reserves t k n b a) ok =
       latest-sound p (advance p t s) ok k (record { packets = n; bits = b }) (rw (advance-latest p t s) (a .holds))

@@ -2,6 +2,7 @@
 use Prim.Native.Nat.{ℕ, _≤_, _<_}
 use mathlib.Core.Path.{_≡_, refl, sym, _∙_, subst}
 use mathlib.Core.List.{List, [], _∷_}
+use native.Mathlib.Omega.{arith}
 use Rattle.rules.specs.Plan.{Plan}
 use Rattle.rules.specs.Call.{high, Call, time, taken}
 use Rattle.rules.specs.Core.{Core, Request, standing, fresh, frameOf, advance, at, due}
@@ -17,7 +18,7 @@ use Rattle.rules.proofs.Flat.Follows.{Follows}
 use Rattle.rules.proofs.Core.Sound.{Told}
 use Rattle.rules.proofs.Core.ClockAdvance.{advance-clock, due-late}
 use Rattle.rules.proofs.Core.AlwaysSound.{Good, good}
-use Rattle.rules.proofs.Core.WordsAndCore.{Tells, neither, plain, kept, made-normal, Reads, advance-reads}
+use Rattle.rules.proofs.Core.WordsAndCore.{Tells, neither, plain, kept, made-normal, taken-normal, Reads, advance-reads}
 use Rattle.rules.proofs.Core.OneMoreEntry.{refused-reads, quiet-reads, rest-reads, ask-reads, off-reads, until-reads, reserve-reads, grant-reads}
 use Rattle.rules.proofs.Laws.Clash.{clash}
 
@@ -31,7 +32,7 @@ event-clock (waiting t) s = refl
 module _ (p : Plan) (fig : Figures p) (past : List Entry) where
   event-reads : (s : Core) {call : Call} → Acceptable p s call → Reads p past (advance p (time call) s)
       → Reads p (record { call = call; answer = taken } ∷ past) (change call (advance p (time call) s))
-  event-reads s (asks c t k b a) was = ask-reads p past (advance p t s) was c t k b (advance-clock p t s) (λ q. a .share (cc) .some)
+  event-reads s (asks c t k b a) was = ask-reads p past (advance p t s) was c t k b (advance-clock p t s)
   event-reads s (leaves t k o w) was = off-reads p past (advance p t s) was t k
   event-reads s (reserves t k n b a) was = reserve-reads p past (advance p t s) was fig t k n b (advance-clock p t s)
   event-reads s (waits t o) was = until-reads p past (advance p t s) was t
@@ -74,12 +75,16 @@ fresh-reads p =
 
 -- a request that is high by the words is high in the core, and the other way round
 module _ (p : Plan) (k : ℕ) (past : List Entry) (now : ℕ) where
-  high-in-core : {a : Asked} {q : Request} → Tells p k past now a q → (t b : ℕ) → a ≡ asked high t b
+  high-in-core : {a : Asked} {q : Request} → Tells p k past now a q → (t b : ℕ) → a ≡ asked high t b → 1 ≤ reserved p k (frameOf p t) past .packets
       → ((f : ℕ) → frameOf p t < f → f ≤ now → Keeps (reserved p k f past) b) → q ≡ standing high b
-  high-in-core neither t b e ks = clash (cc)
-  high-in-core (plain u c) t b e ks = clash (cc)
-  high-in-core (kept u c l n hs) t b e ks = let f : c ≡ b = cc in cc
-  high-in-core (made-normal u c f l m n) t b e ks =
+  high-in-core neither t b e some ks = clash (cc)
+  high-in-core (plain u c) t b e some ks = clash (cc)
+  high-in-core (kept u c l n hs) t b e some ks = let f : c ≡ b = cc in cc
+  high-in-core (taken-normal u c l z) t b e some ks =
+      let v : u ≡ t = cc in
+      let none = subst (λ (x : ℕ). reserved p k (frameOf p x) past .packets ≡ 0) v z in
+      absurd (omega (arith, none, some))
+  high-in-core (made-normal u c f l m n) t b e some ks =
       let v : u ≡ t = cc in
       let w : c ≡ b = cc in
       absurd (n (subst (λ (x : ℕ). Keeps (reserved p k f past) x) (sym w) (ks f (subst (λ (x : ℕ). frameOf p x < f) v l) m)))
@@ -107,7 +112,7 @@ module _ (p : Plan) (fig : Figures p) (M : Machine) (follows : Follows p M) (som
         clock = now;
         force = r .force;
         latest = r .latest;
-        high = λ k h. high-in-core p k (made p M calls .past) (frameOf p (made p M calls .hub .core .clock)) (r .request k) (h .put-up) (h .length) (h .stands)
+        high = λ k h. high-in-core p k (made p M calls .past) (frameOf p (made p M calls .hub .core .clock)) (r .request k) (h .put-up) (h .length) (h .stands) (h .in-force)
             (λ f l u. h .kept f l (rw now u));
         granted = r .granted;
         none-later = r .none-later;

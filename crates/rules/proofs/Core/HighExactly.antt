@@ -10,7 +10,7 @@ use Rattle.rules.specs.Machine.{Machine}
 use Rattle.rules.specs.Run.{Entry, made}
 use Rattle.rules.specs.Words.{clockAt, Asked, requestAt, High}
 use Rattle.rules.proofs.Flat.Follows.{Follows}
-use Rattle.rules.proofs.Core.WordsAndCore.{Tells, neither, plain, kept, made-normal}
+use Rattle.rules.proofs.Core.WordsAndCore.{Tells, neither, plain, kept, made-normal, taken-normal}
 use Rattle.rules.proofs.Core.AlwaysTold.{reads, clock-told}
 use Rattle.rules.proofs.Core.Requests.{none-standing, normal-high}
 
@@ -20,6 +20,7 @@ high-by-words p k past neither e b q = none-standing high b q
 high-by-words p k past (plain t c) e b q = normal-high c b q
 high-by-words p k past (kept t c l n ks) e b q = (record { put-up = t; length = c; stands = e; in-force = n; kept = ks }, cc)
 high-by-words p k past (made-normal t c f l u n) e b q = normal-high c b q
+high-by-words p k past (taken-normal t c l z) e b q = normal-high c b q
 
 -- a request that is high in the core is high by the words, of the same length
 pub core-high : (p : Plan) (fig : Figures p) (M : Machine) (follows : Follows p M) → 1 ≤ p .nodes → (calls : List Call) (k b : ℕ)

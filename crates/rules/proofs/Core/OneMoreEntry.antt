@@ -14,13 +14,13 @@ use Rattle.rules.specs.Call.{Class, normal, high, Call, ask, off, reserv
 use Rattle.rules.specs.Core.{Core, Request, standing, Share, frameOf}
 use Rattle.rules.specs.Drawn.{Figures}
 use Rattle.rules.specs.Machine.{granting, restful, oneMore}
-use Rattle.rules.specs.Rows.{withRequest, withLatest}
+use Rattle.rules.specs.Rows.{withRequest, withLatest, putUp}
 use Rattle.rules.specs.Run.{Entry}
 use Rattle.rules.specs.Words.{reservedBy, reserved, Asked, asked, askedBy, requestAt, endsBy, highGrants}
 use Rattle.rules.proofs.Laws.Passes.{Which, which, yes′, no′}
 use Rattle.rules.proofs.Core.CallCases.{Event, asking, leaving, reserving, waiting}
 use Rattle.rules.proofs.Laws.Frames.{starts, starts-later}
-use Rattle.rules.proofs.Core.WordsAndCore.{Tells, neither, plain, kept, Reads, tells-on}
+use Rattle.rules.proofs.Core.WordsAndCore.{Tells, neither, plain, kept, taken-normal, Reads, tells-on}
 
 -- k = j, asked both ways round
 other-way-round : (j k : ℕ) {b : Bool} → eqb j k ≡ b → eqb k j ≡ b
@@ -135,24 +135,31 @@ module _ (p : Plan) (past : List Entry) where
         go (no′ e) = rw (other-way-round j k e, e) (tells-on p j (same j) (was .request j))
 
   module _ (s : Core) (was : Reads p past s) where
-    pub ask-reads : (c : Class) (t k b : ℕ) → s .clock ≡ t → (standing c b ≡ standing high b → 1 ≤ s .force k .packets)
-        → Reads p (record { call = ask c t k b; answer = taken } ∷ past) (withRequest k (standing c b) s)
+    pub ask-reads : (c : Class) (t k b : ℕ) → s .clock ≡ t
+        → Reads p (record { call = ask c t k b; answer = taken } ∷ past) (withRequest k (standing (putUp (s .force k) c) b) s)
     unfolding reserved requestAt highGrants
-    ask-reads c t k b now allowed =
+    ask-reads c t k b now =
         record {
           force = was .force;
           latest = was .latest;
-          request = put-tells (record { call = ask c t k b; answer = taken } ∷ past) s (λ k f l. refl) was k (asked c t b) (standing c b) (new c allowed);
+          request =
+              put-tells (record { call = ask c t k b; answer = taken } ∷ past) s (λ k f l. refl) was k (asked c t b) (standing (putUp (s .force k) c) b) (new c);
           granted = was .granted;
           none-later = was .none-later;
         }
       where
-        new : (c : Class) → (standing c b ≡ standing high b → 1 ≤ s .force k .packets)
-            → Tells p k (record { call = ask c t k b; answer = taken } ∷ past) (frameOf p (s .clock)) (asked c t b) (standing c b)
-        new normal allowed = plain t b
-        new high allowed =
-            let same : frameOf p (s .clock) ≡ frameOf p t = ap (λ (u : ℕ). frameOf p u) now in
-            kept t b (omega arith) (rw (← same, was .force k) (allowed refl)) (λ f m u. absurd (omega arith))
+        same : frameOf p (s .clock) ≡ frameOf p t
+        same = ap (λ (u : ℕ). frameOf p u) now
+
+        new : (c : Class) → Tells p k (record { call = ask c t k b; answer = taken } ∷ past) (frameOf p (s .clock)) (asked c t b) (standing (putUp (s .force k) c) b)
+        new normal = plain t b
+        new high = go (which (eqb (s .force k .packets) 0))
+          where
+            go : Which (eqb (s .force k .packets) 0)
+                → Tells p k (record { call = ask high t k b; answer = taken } ∷ past) (frameOf p (s .clock)) (asked high t b) (standing (putUp (s .force k) high) b)
+            go (yes′ z) = rw z (taken-normal t b (omega (arith, same)) (rw (← same, was .force k) (eqb-true (s .force k .packets) 0 z)))
+            go (no′ z) =
+                rw z (kept t b (omega (arith, same)) (rw (← same, was .force k) (omega (arith, eqb-false (s .force k .packets) 0 z))) (λ f m u. absurd (omega (arith, same))))
 
     pub off-reads : (t k : ℕ) → Reads p (record { call = off t k; answer = taken } ∷ past) (withRequest k Request.none s)
     unfolding reserved requestAt highGrants

@@ -1,13 +1,14 @@
 -- Laws of one request: what the frame's start makes of it, and what stands where a node counts.
-use Prim.Native.Nat.{ℕ, _<_}
+use Prim.Native.Nat.{ℕ, _≤_, _<_}
 use mathlib.Core.Path.{_≡_, refl, sym, subst}
 use mathlib.Core.Bool.{Bool, true, false, _||_}
 use native.Mathlib.Omega.{arith}
 use lib.Dec.{ltb, eqb}
-use borrow.Author.Tests.{ltb-true, ltb-false, eqb-true, eqb-false}
+use borrow.Author.Tests.{ltb-true, ltb-false, eqb-true, eqb-false, ne-eqb}
 use Rattle.rules.specs.Choice.{if_then_else_, put}
 use Rattle.rules.specs.Call.{Class, normal, high}
 use Rattle.rules.specs.Core.{Core, Request, none, standing, Share, reclassed, isClass, shareLeft, countsIn}
+use Rattle.rules.specs.Rows.{putUp}
 use Rattle.rules.specs.Words.{Keeps}
 use Rattle.rules.proofs.Laws.Passes.{Which, which, yes′, no′, true-false, and-both}
 use Rattle.rules.proofs.Laws.Clash.{clash}
@@ -78,3 +79,15 @@ put-all P f k v new old j = go (which (eqb j k))
     go : Which (eqb j k) → P j (if eqb j k then v else f j)
     go (yes′ e) = rw e (subst (λ (i : ℕ). P i v) (sym (eqb-true j k e)) new)
     go (no′ e) = rw e (old j)
+
+-- what is put up is high just where high is asked and something is reserved in force
+pub put-up-high : (r : Share) (c : Class) → putUp r c ≡ high → (c ≡ high) × (1 ≤ r .packets)
+put-up-high r normal e = clash (cc)
+put-up-high r high e = (refl, go (which (eqb (r .packets) 0)))
+  where
+    go : Which (eqb (r .packets) 0) → 1 ≤ r .packets
+    go (yes′ z) = let n : normal ≡ high = rw z at e in clash (cc)
+    go (no′ z) = omega (arith, eqb-false (r .packets) 0 z)
+
+pub reserved-high : (r : Share) → 1 ≤ r .packets → putUp r high ≡ high
+reserved-high r some = rw (ne-eqb (r .packets) 0 (omega arith))

@@ -1,7 +1,7 @@
 -- Which calls pass each row: its test fails exactly where the rule holds, in orders and equations.
 use Prim.Native.Nat.{ℕ, _≤_}
 use mathlib.Core.Path.{_≡_, refl}
-use mathlib.Core.Bool.{Bool, false, _||_}
+use mathlib.Core.Bool.{Bool, true, false, _||_}
 use mathlib.Core.Logic.{_↔_}
 use native.Mathlib.Omega.{arith}
 use lib.Dec.{ltb, eqb}
@@ -11,10 +11,9 @@ use Rattle.rules.specs.Plan.{Plan, shortest, longest}
 use Rattle.rules.specs.Call.{Class, normal, high}
 use Rattle.rules.specs.Core.{Core, Share, advance, Due, never, at, due}
 use Rattle.rules.specs.Drawn.{Within}
-use Rattle.rules.specs.Rows.{last-time, loads, row11, row12, row13, row14, row15, row15r, row16, row17}
-use Rattle.rules.specs.Words.{Keeps}
-use Rattle.rules.specs.Promises.{Holds, InRange, given-up, packets}
-use Rattle.rules.proofs.Laws.Passes.{Which, which, yes′, no′, or-both, or-none}
+use Rattle.rules.specs.Rows.{last-time, loads, row11, row12, row13, row14, row15, row15r, unreserved, row16, row17}
+use Rattle.rules.specs.Promises.{Holds, Allows, InRange, given-up, packets}
+use Rattle.rules.proofs.Laws.Passes.{Which, which, yes′, no′, true-false, unless, or-both, or-none}
 use Rattle.rules.proofs.Laws.Clash.{clash}
 
 -- where a test fails
@@ -68,9 +67,25 @@ module _ (p : Plan) where
       in-range given-up = refl
       in-range (packets m a some l u) = rw (not-zero m .1 some) (simp failing (omega arith))
 
-  pub passed16 : (s : Core) (c : Class) (t k b : ℕ) → (row16 p s c t k b .applies ≡ false) ↔ (c ≡ high → Keeps (advance p t s .force k) b)
-  passed16 s normal t k b = (λ e q. clash (cc), λ h. refl)
-  passed16 s high t k b = (λ e q. omega (arith, simp failing at e), λ h. simp failing (omega (arith, h refl)))
+  -- by the reservation in force
+  allows : (r : Share) (c : Class) (b : ℕ) → (unreserved p r c b ≡ false) ↔ Allows p r c b
+  allows r normal b = (λ e. record { fits = λ q. clash (cc); some = λ q. clash (cc) }, λ h. refl)
+  allows r high b = go (which (eqb (r .packets) 0))
+    where
+      go : Which (eqb (r .packets) 0) → (unreserved p r high b ≡ false) ↔ Allows p r high b
+      go (yes′ z) =
+          let none = eqb-true (r .packets) 0 z in (
+            λ e. record { fits = λ q n. absurd (omega arith); some = λ q s. absurd (true-false s (rw z at e)) },
+            λ h. rw z (unless (p .strict) (λ s. (let n = h .some refl s in omega arith))),
+          )
+      go (no′ z) =
+          let some = not-zero (r .packets) .0 z in (
+            λ e. record { fits = λ q n. omega (arith, simp failing at (rw z at e)); some = λ q s. some },
+            λ h. rw z (simp failing (omega (arith, h .fits refl some))),
+          )
+
+  pub passed16 : (s : Core) (c : Class) (t k b : ℕ) → (row16 p s c t k b .applies ≡ false) ↔ Allows p (advance p t s .force k) c b
+  passed16 s c t k b = allows (advance p t s .force k) c b
 
   pub passed17 : (s : Core) (k : ℕ) (r : Share) → (row17 p s k r .applies ≡ false) ↔ Holds p (loads p (put (s .latest) k r))
   passed17 s k r = (λ e. omega (arith, simp failing at e), λ h. simp failing (omega arith))

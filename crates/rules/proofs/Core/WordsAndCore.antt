@@ -17,8 +17,8 @@ use Rattle.rules.proofs.Laws.Frames.{frame-mono}
 use Rattle.rules.proofs.Core.Instants.{Advanced, across, inside, advanced}
 use Rattle.rules.proofs.Core.Requests.{Start, stays-high, becomes-normal, start-of}
 
--- k's request by the words, and in the core, in frame f: a high one is high
--- still if each frame start since kept it, and normal if one did not
+-- k's request by the words, and in the core, in frame f: a high one is high still if each
+-- frame start since kept it, and normal if one did not, or if nothing was in force as it came
 pub data Tells (p : Plan) (k : ℕ) (past : List Entry) (now : ℕ) : Asked → Request → Type 0 where
   neither : Tells p k past now Asked.none Request.none
   plain : (t b : ℕ) → Tells p k past now (asked normal t b) (standing normal b)
@@ -26,6 +26,8 @@ pub data Tells (p : Plan) (k : ℕ) (past : List Entry) (now : ℕ) : Asked → 
       → ((f : ℕ) → frameOf p t < f → f ≤ now → Keeps (reserved p k f past) b)
       → Tells p k past now (asked high t b) (standing high b)
   made-normal : (t b f : ℕ) → frameOf p t < f → f ≤ now → (Keeps (reserved p k f past) b → ⊥)
+      → Tells p k past now (asked high t b) (standing normal b)
+  taken-normal : (t b : ℕ) → frameOf p t ≤ now → reserved p k (frameOf p t) past .packets ≡ 0
       → Tells p k past now (asked high t b) (standing normal b)
 
 pub record Reads (p : Plan) (past : List Entry) (s : Core) : Type 0 where
@@ -43,6 +45,7 @@ module _ (p : Plan) (k : ℕ) where
   tells-on same (plain t b) = plain t b
   tells-on same (kept t b l n ks) = kept t b l (rw (same (frameOf p t) l) n) (λ f m u. rw (same f u) (ks f m u))
   tells-on same (made-normal t b f l u n) = made-normal t b f l u (λ h. n (rw (same f u) at h))
+  tells-on same (taken-normal t b l z) = taken-normal t b l (rw (same (frameOf p t) l) z)
 
   -- one frame start or several: each finds the latest reservation in force
   pub tells-start : {past : List Entry} {now soon : ℕ} {a : Asked} {q : Request} (r : Share) → now < soon
@@ -59,6 +62,7 @@ module _ (p : Plan) (k : ℕ) where
       go (stays-high h) = kept t b (omega arith) n (λ f v u. keeps h f v (which (ltb now f)) u)
       go (becomes-normal h) = made-normal t b soon (omega arith) (omega arith) (λ x. h (rw (later soon l) at x))
   tells-start r l later (made-normal t b f m u n) = made-normal t b f m (omega arith) n
+  tells-start r l later (taken-normal t b m z) = taken-normal t b (omega arith) z
 
 -- the clock's advance changes no word
 module _ (p : Plan) (fig : Figures p) (past : List Entry) (t : ℕ) (s : Core) (late : s .clock ≤ t) (was : Reads p past s) where

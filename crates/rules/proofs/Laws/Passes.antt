@@ -21,6 +21,10 @@ which false = no′ refl
 pub true-false : {b : Bool} → b ≡ true → b ≡ false → ⊥
 true-false {b} p q = let z : _≡_ {A = ℕ} 0 1 = ap (λ (x : Bool). if x then 0 else 1) (sym p ∙ q) in omega arith
 
+pub unless : (b : Bool) → (b ≡ true → ⊥) → b ≡ false
+unless true h = absurd (h refl)
+unless false h = refl
+
 pub or-left : (a b : Bool) → a ≡ true → (a || b) ≡ true
 or-left true b e = refl
 or-left false b e = absurd (true-false e refl)

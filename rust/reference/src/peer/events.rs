@@ -11,6 +11,13 @@ impl Peer {
         let k = self.row_13(k)?;
         self.row_15(b)?;
         self.move_clock(t);
+        self.stand_normal(k, b);
+        Ok(())
+    }
+
+    /// A normal request stands at the node in this place, instead of any earlier.
+    #[inline]
+    fn stand_normal(&mut self, k: usize, b: u64) {
         let node = at_mut(&mut self.node, k);
         let before = *node;
         node.bits = b as u16;
@@ -20,10 +27,10 @@ impl Peer {
             self.hide(HIGH, usize::from(before.hub), before.bit);
         }
         self.show(NORMAL, usize::from(before.hub), before.bit);
-        Ok(())
     }
 
-    /// `(high t k b)`
+    /// `(high t k b)`. A longest of 0 means that nothing is reserved at t: then it
+    /// is normal, or refused if the plan is strict.
     #[inline(never)]
     pub fn high(&mut self, t: u64, k: u64, b: u64) -> Result<(), Row> {
         self.rows_11_12(t)?;
@@ -32,7 +39,12 @@ impl Peer {
         let node = at_mut(&mut self.node, k);
         let longest = if t < self.next_start { node.in_force } else { node.latest_bits };
         if b > u64::from(longest) {
-            return Err(16);
+            if longest > 0 || self.strict {
+                return Err(16);
+            }
+            self.move_clock(t);
+            self.stand_normal(k, b);
+            return Ok(());
         }
         self.move_clock(t);
         let node = at_mut(&mut self.node, k);

@@ -80,6 +80,7 @@ pub struct Peer {
     pub(super) overhead: u64,
     /// How many bits the plan's longest packet has more than the shortest.
     pub(super) spread: u64,
+    pub(super) strict: bool,
     /// T - D, what the reservations may fill, and what they do fill.
     pub(super) room: u64,
     pub(super) filled: u64,
@@ -114,6 +115,7 @@ impl Peer {
             frame: plan.frame,
             overhead: plan.overhead,
             spread: plan.longest_packet() - SHORTEST_PACKET,
+            strict: plan.strict,
             room: plan.frame - plan.interrupt,
             filled: 0,
             shown: [shown; 2],

@@ -7,6 +7,8 @@ use crate::hub::{Answer, Call, Calls};
 use crate::plan::Plan;
 use std::ops::RangeInclusive;
 
+mod laptop;
+
 /// Lengths about the longest packets of both framings.
 const NEAR_LONGEST: [u64; 6] = [11_999, 12_000, 12_001, 35_999, 36_000, 36_001];
 
@@ -41,6 +43,8 @@ pub struct Caller {
     latest: Vec<(u64, u64)>,
     /// Nodes that will ask again.
     again: Vec<u64>,
+    /// The calls of a scene that are left, the next one last.
+    scene: Vec<Call>,
     made: u64,
 }
 
@@ -84,6 +88,7 @@ impl Caller {
             quiet: 0,
             latest: vec![(0, 0); plan.nodes],
             again: Vec::new(),
+            scene: Vec::new(),
             made: 0,
         }
     }
@@ -95,9 +100,13 @@ impl Caller {
         if self.made == 1 && self.random.chance(12) {
             return Call::Until { t: LAST_TIME - self.random.below(40 * self.frame) };
         }
-        match self.style {
-            Style::Mixed => self.mixed(),
-            Style::Loaded => self.loaded(),
+        if self.scene.is_empty() && self.random.chance(3) {
+            self.set_scene();
+        }
+        match (self.scene.pop(), self.style) {
+            (Some(call), _) => call,
+            (None, Style::Mixed) => self.mixed(),
+            (None, Style::Loaded) => self.loaded(),
         }
     }
 
@@ -160,6 +169,10 @@ impl Caller {
                 let t = if self.random.chance(50) { self.clock } else { self.end.max(self.clock) };
                 let b = if self.random.chance(80) { b } else { self.random.within(SHORTEST_PACKET..=b) };
                 return Call::High { t, k, b };
+            }
+            // A laptop calls everything high.
+            if n == 0 && self.random.chance(30) {
+                return Call::High { t: self.clock, k, b: self.length() };
             }
         }
         match self.random.below(100) {
@@ -281,15 +294,17 @@ impl Caller {
         }
     }
 
+    /// What the reservations of all others leave to k.
+    fn left(&self, k: u64) -> u64 {
+        let others = (1..).zip(&self.latest).filter(|&(j, _)| j != k);
+        let filled = others.map(|(_, &(n, b))| n * (b + self.overhead)).sum();
+        self.room.saturating_sub(filled)
+    }
+
     /// n and b of a reservation of k: often what just fills the frame, or one
     /// bit more.
     fn reservation(&mut self, k: u64) -> (u64, u64) {
-        let filled: u64 = (1..)
-            .zip(&self.latest)
-            .filter(|&(j, _)| j != k)
-            .map(|(_, &(n, b))| n * (b + self.overhead))
-            .sum();
-        let left = self.room.saturating_sub(filled);
+        let left = self.left(k);
         match self.random.below(100) {
             0..=44 => {
                 let share = left / self.random.within(1..=self.busy_nodes.len() as u64).min(8);

@@ -4,6 +4,7 @@
 pub mod calls;
 pub mod framings;
 pub mod plans;
+pub mod stricts;
 pub mod texts;
 
 use std::ops::RangeInclusive;

@@ -7,7 +7,7 @@ use crate::plan::*;
 const FRAMING_LINES: [Option<Framing>; 4] =
     [None, Some(Framing::Ethernet), Some(Framing::TokenRing), Some(Framing::TokenRing)];
 
-/// A random plan.
+/// A random plan; half of them are strict.
 pub fn plan(random: &mut Random) -> Plan {
     let framing_line = random.one_of(&FRAMING_LINES);
     let (frame, overhead, interrupt) = figures(random, framing_line.unwrap_or_default());
@@ -15,6 +15,7 @@ pub fn plan(random: &mut Random) -> Plan {
     let mut plan = Plan::new(frame, overhead, interrupt);
     plan.framing_line = framing_line;
     build(&shape, 0, &mut plan, ROOT);
+    plan.strict = random.chance(50);
     plan
 }
 

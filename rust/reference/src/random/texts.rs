@@ -1,7 +1,7 @@
 //! Random texts of a plan and events, valid and damaged.
 
 use super::calls::{Caller, Style};
-use super::{framings, plans, Random};
+use super::{framings, plans, stricts, Random};
 use crate::fast::Fast;
 use crate::hub::Call;
 use crate::log::{steps, LONGEST_TEXT};
@@ -44,7 +44,8 @@ const FIGURES: [&str; 32] = [
 ];
 
 /// A random text: nearly half of them valid plans with events some of which are
-/// refused, the others damaged, in the framing line alone or elsewhere too.
+/// refused, the others damaged, in the framing line or by a line `(strict)` alone
+/// or elsewhere too.
 pub fn text(random: &mut Random) -> Vec<u8> {
     let mut text = whole(random);
     if random.chance(50) {
@@ -54,6 +55,9 @@ pub fn text(random: &mut Random) -> Vec<u8> {
     }
     if random.chance(15) {
         framings::damage(random, &mut text);
+    }
+    if random.chance(15) {
+        stricts::damage(random, &mut text);
     }
     text
 }

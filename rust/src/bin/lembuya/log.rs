@@ -70,7 +70,7 @@ pub fn read(bytes: &[u8]) -> Result<Vec<Entry>, usize> {
 }
 
 /// The words of the documents' tables for `(refused line number)` in the log of a text with this plan, or whose plan is refused.
-/// A plan's row 1 and an event line's row 1 differ, row 2 asks the line, and row 15 the plan.
+/// A plan's row 1 and an event line's row 1 differ, row 2 asks the line, and rows 15 and 16 the plan.
 pub fn words(line: u64, number: u64, plan: Option<&Plan>) -> String {
     let words = match plan {
         None => PlanRow::numbered(number).map(|row| PlanRefused { line, row }.words().into()),
@@ -80,13 +80,14 @@ pub fn words(line: u64, number: u64, plan: Option<&Plan>) -> String {
     words.unwrap_or_else(|| "no row has this number".into())
 }
 
-/// A row's words for an event, with the figure of the plan that row 15 leaves open.
+/// A row's words for an event, with what the plan tells of it: row 15's figure, and which of row 16's cases there are.
 fn event_words(row: Refused, plan: &Plan) -> String {
     match row {
         Refused::Length => {
             let lengths = format!("512 to the plan's longest packet, here {}", plan.longest_packet());
             format!("b outside {lengths}; in a reserve with n = 0 instead: b not 0")
         }
+        Refused::Unreserved if !plan.is_strict() => "b above the b in force".into(),
         other => other.to_string(),
     }
 }
@@ -162,9 +163,19 @@ mod tests {
         }
     }
 
-    /// A plan with a framing line, or without.
-    fn plan(framing: &str) -> Plan {
+    /// Without `(strict)` a request with n = 0 is taken, so that one refused by 16 is too long.
+    #[test]
+    fn row_16_has_the_plans_cases() {
+        let found = |line: &str| words(9, 16, Some(&plan(line)));
+        assert_eq!(found(""), "b above the b in force");
+        assert_eq!(found("(framing 5)\n"), found(""));
+        assert_eq!(found("(strict)\n"), Refused::Unreserved.to_string());
+        assert_eq!(found("(framing 5)\n(strict)\n"), found("(strict)\n"));
+    }
+
+    /// A plan with these lines before its root's.
+    fn plan(lines: &str) -> Plan {
         let figures = "(frame 100000)\n(overhead 1000)\n(interrupt 37000)\n";
-        Plan::read(format!("{figures}{framing}(hub\n(node)\n)\n").as_bytes()).unwrap()
+        Plan::read(format!("{figures}{lines}(hub\n(node)\n)\n").as_bytes()).unwrap()
     }
 }

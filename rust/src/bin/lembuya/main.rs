@@ -24,9 +24,10 @@ lembuya: the cascade hub's turns, from a plan and its events
 
 TEXT holds a plan and events, as documents 01 and 02 write them; '-' is standard input. The plan's lines:
 
-    (frame T)  (overhead O)  (interrupt D)  perhaps (framing 3) or (framing 5)  then one hub
+    (frame T)  (overhead O)  (interrupt D)  perhaps (framing 3) or (framing 5)  perhaps (strict)  then one hub
 
-D is at least 12,000 + O, with (framing 5) 36,000 + O.
+D is at least 12,000 + O, with (framing 5) 36,000 + O. A high request of a node with nothing reserved in force
+is taken as a normal one, with (strict) refused by 16.
 
 'lembuya run --help' and so on say more.
 

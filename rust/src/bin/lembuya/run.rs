@@ -17,6 +17,7 @@ Of more than one text each log has a line '==> FILE <==' above it, as 'head' wri
     --quiet    don't say on standard error which lines are refused, and why
 
 Every refused line is said on standard error: FILE:LINE: refused NUMBER: the table's words.
+A high request that is taken as normal, in a plan without (strict), is not: its grant has class 1.
 Of a text at most 65,536 bytes are looked at.
 
 Exit status: 0; 1 where a plan is refused (a refused event is no error); 2 for bad usage.

@@ -67,7 +67,7 @@ mod tests {
         let lines: Vec<&str> = EXAMPLE.lines().collect();
         let shown = text.events.iter().map(|event| (event.call.to_string(), lines[event.line as usize - 1]));
         assert!(shown.clone().all(|(shown, line)| shown == line));
-        assert_eq!((shown.count(), text.events[0].line), (8, 12));
+        assert_eq!((shown.count(), text.events[0].line), (8, 13));
     }
 
     #[test]
@@ -84,6 +84,6 @@ mod tests {
     fn a_line_of_no_form_is_no_event() {
         let text = EXAMPLE.replace("(normal 0 1 12000)", "(normal 0 1)").into_bytes();
         let lines: Vec<u64> = Text::read(&text).unwrap().events.iter().map(|event| event.line).collect();
-        assert_eq!(lines, [12, 14, 15, 16, 17, 18, 19]);
+        assert_eq!(lines, [13, 15, 16, 17, 18, 19, 20]);
     }
 }

@@ -278,7 +278,7 @@ mod tests {
         // In frame 1: D + 2 × (4,000 + 1,000), of node 3 alone.
         assert_eq!(chart.limits.iter().map(|mark| (mark.row, mark.at)).collect::<Vec<_>>(), [(4, 123_000)]);
         assert_eq!(chart.refusals.iter().map(|mark| (mark.row, mark.at)).collect::<Vec<_>>(), [(4, 0)]);
-        assert!(chart.refusals[0].title.starts_with("(refused 15 16): "));
+        assert!(chart.refusals[0].title.starts_with("(refused 16 16): "));
     }
 
     #[test]

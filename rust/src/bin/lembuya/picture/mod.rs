@@ -29,9 +29,10 @@ too: then there is no tree, and no frame or delay limit, since a log doesn't tel
     --title WORDS       the words above the picture; at first the file's name
 
 Rows are the hubs and nodes in line order. A node's bars are its grants: high ones orange and tall,
-normal ones blue and low. A dark line on a hub's row: it has control; where control passes, the
-number of moves stands by it. A grey stretch is a rest. Frames are lines with their numbers, a
-black triangle under a row's bars is its node's delay limit in that frame, a cross a refused event.
+normal ones blue and low, those of high requests that were taken as normal too. A dark line on a
+hub's row: it has control; where control passes, the number of moves stands by it. A grey stretch is
+a rest. Frames are lines with their numbers, a black triangle under a row's bars is its node's delay
+limit in that frame, a cross a refused event.
 Point at any of these in a browser and it shows its line of the log.
 
 Exit status: 0; 1 where the plan is refused; 2 for bad usage.

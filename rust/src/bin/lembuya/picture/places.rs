@@ -74,13 +74,14 @@ impl Places {
         match text {
             None => format!("{} nodes; times in bit times (10 ns)", self.node.len()),
             Some(Text { plan, .. }) => format!(
-                "{} nodes, {hubs} hubs; frame {}, overhead {}, interrupt {} bit times (10 ns); framing {}, longest packet {} bits",
+                "{} nodes, {hubs} hubs; frame {}, overhead {}, interrupt {} bit times (10 ns); framing {}, longest packet {} bits; {}",
                 self.node.len(),
                 plan.frame(),
                 plan.overhead(),
                 plan.interrupt(),
                 plan.framing().number(),
-                plan.longest_packet()
+                plan.longest_packet(),
+                if plan.is_strict() { "strict" } else { "not strict" }
             ),
         }
     }
@@ -122,11 +123,11 @@ mod tests {
         let tree = "(hub\n(node)\n(hub\n(node)\n)\n)\n";
         assert_eq!(
             figures(&format!("(frame 100000)\n(overhead 1000)\n(interrupt 13000)\n{tree}")),
-            "2 nodes, 2 hubs; frame 100000, overhead 1000, interrupt 13000 bit times (10 ns); framing 3, longest packet 12000 bits"
+            "2 nodes, 2 hubs; frame 100000, overhead 1000, interrupt 13000 bit times (10 ns); framing 3, longest packet 12000 bits; not strict"
         );
         assert_eq!(
-            figures(&format!("(frame 100000)\n(overhead 1000)\n(interrupt 37000)\n(framing 5)\n{tree}")),
-            "2 nodes, 2 hubs; frame 100000, overhead 1000, interrupt 37000 bit times (10 ns); framing 5, longest packet 36000 bits"
+            figures(&format!("(frame 100000)\n(overhead 1000)\n(interrupt 37000)\n(framing 5)\n(strict)\n{tree}")),
+            "2 nodes, 2 hubs; frame 100000, overhead 1000, interrupt 37000 bit times (10 ns); framing 5, longest packet 36000 bits; strict"
         );
     }
 }
