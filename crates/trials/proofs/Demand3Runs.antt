@@ -26,9 +26,9 @@ use Rattle.rules.specs.Words.{clockAt, reserved, requestAt, highGrants, delayLi
 use Rattle.rules.proofs.Demand3.OfControl.{control-demand3}
 use Rattle.rules.proofs.Laws.Passes.{true-false}
 use Rattle.trials.specs.Text.{bytes, textOf}
-use Rattle.trials.specs.Plans.{plan01, ring}
+use Rattle.trials.specs.Plans.{plan01, plan01-default, ring}
 use Rattle.trials.specs.Demand3Tests.{isHigh, unbroken, nextTurns}
-use Rattle.trials.specs.Demand3Runs.{Figures, Worked, planRead, whole, frameEnd, figures, demand3-runs, AllRight, Says, UnbrokenOf, NextTurnsOf, RunToOf, ClaimOf, Shown, AllShown, at-the-limit, over-the-start, ring-at-the-limit}
+use Rattle.trials.specs.Demand3Runs.{Figures, Worked, planRead, whole, frameEnd, figures, demand3-runs, AllRight, Says, UnbrokenOf, NextTurnsOf, RunToOf, ClaimOf, Shown, AllShown, at-the-limit, over-the-start, ring-at-the-limit, behind-a-laptop}
 use Rattle.trials.proofs.Demand3Tests.{unbroken-is, next-turns-is, demand3-is, run-to-is}
 
 pub runs-right : AllRight demand3-runs
@@ -101,3 +101,16 @@ unfolding AllShown
 ring-at-the-limit-kept =
     let s = runs-shown .1 .1 .0 in
     its-claim ring-at-the-limit (on-the-ring .plan) (omega arith) (omega (arith, on-the-ring .nodes-told)) (s .unbroken) (s .next-turns) (s .run-to)
+
+-- without `(strict)`, by the same theorem
+default-taken : TakenAs plan01-default 4 2 91 12
+default-taken = let e = runs-right .read in cc
+
+by-default-plan : TakenPlan (reading plan01-default .tables) 4 2
+by-default-plan = taken-plan plan01-default 4 2 91 12 default-taken
+
+pub behind-a-laptop-kept : ClaimOf behind-a-laptop
+unfolding AllShown
+behind-a-laptop-kept =
+    let s = runs-shown .1 .1 .1 .0 in
+    its-claim behind-a-laptop (by-default-plan .plan) (omega arith) (omega (arith, by-default-plan .nodes-told)) (s .unbroken) (s .next-turns) (s .run-to)

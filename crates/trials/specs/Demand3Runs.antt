@@ -1,6 +1,6 @@
--- Demand 3 worked: lists of calls on document 01's plan as it is read from its text, and on one with framing 5. In the first and the
--- third the nth packet ends just at the limit, in the second one bit time before it. In each of the others one premise fails alone, and
--- the claim with it.
+-- Demand 3 worked: lists of calls on document 01's plan as it is read from its text, with `(strict)` and without it, and on one with
+-- framing 5. In the first, third and fourth the nth packet ends just at the limit, in the second one bit time before it. In each of the
+-- others one premise fails alone, and the claim with it.
 use Prim.Native.Nat.{ℕ, _+_, _*_}
 use mathlib.Core.Path.{_≡_}
 use mathlib.Core.Bool.{Bool, true, false, _&&_}
@@ -16,7 +16,7 @@ use Rattle.plan.specs.declared.Answer.the-variants.{Taken}
 use Rattle.plan.specs.Tables.{planOf}
 use Rattle.plan.specs.Reading.{reading}
 use Rattle.trials.specs.Row.{_⟶_}
-use Rattle.trials.specs.Plans.{plan01, ring}
+use Rattle.trials.specs.Plans.{plan01, plan01-default, ring}
 use Rattle.trials.specs.Demand3Tests.{unbroken, nextTurns, limit, exactly, inTime, runTo}
 
 -- what is worked out of a list
@@ -235,6 +235,63 @@ ring-at-the-limit =
           };
     }
 
+-- the same plan without `(strict)`: its text has the line's 9 bytes fewer
+abbrev pub by-default : ℕ → ℕ → List Entry → Figures → Worked
+by-default k f list expected =
+    record { text = plan01-default; read = Taken 4 2 91 12; node = k; frame = f; list = list; expected = expected }
+
+-- All premises hold, without `(strict)`: a laptop, node 2, calls its packets high and has nothing reserved. Its first one is in
+-- progress as the frame starts, and node 1's second packet ends just at the limit, 100,000 + 13,000 + 2 × 5,000
+abbrev pub behind-a-laptop : Worked
+behind-a-laptop =
+    by-default 1 1
+    (reserve 0 1 2 4000 ⟶ taken
+    ∷ ask high 100000 2 12000 ⟶ taken
+    ∷ step 100001 ⟶ grant 100000 2 normal 113000 1
+    ∷ ask high 100000 1 4000 ⟶ taken
+    ∷ ask high 100000 2 12000 ⟶ taken
+    ∷ step 200000 ⟶ grant 113000 1 high 118000 1
+    ∷ ask high 113000 1 4000 ⟶ taken
+    ∷ step 200000 ⟶ grant 118000 1 high 123000 0
+    ∷ step 200000 ⟶ grant 123000 2 normal 136000 3
+    ∷ step 200000 ⟶ rest 136000 1
+    ∷ step 200000 ⟶ quiet
+    ∷ [])
+    (record {
+      packets = 2;
+      ends = 123000 ∷ 118000 ∷ [];
+      limit = 123000;
+      unbroken = true;
+      next-turns = true;
+      run-to = true;
+      exactly = true;
+      in-time = true;
+    })
+
+-- `Unbroken` fails alone, without `(strict)`. Node 3's high request stands as frame 1 starts, where it has
+-- a packet reserved; but it was put up in frame 0, where it had none, and so taken as a normal one
+abbrev pub taken-as-normal : Worked
+taken-as-normal =
+    by-default 3 1
+    (reserve 0 3 1 1000 ⟶ taken
+    ∷ ask normal 99000 1 12000 ⟶ taken
+    ∷ step 99999 ⟶ grant 99000 1 normal 112000 0
+    ∷ ask high 99999 3 1000 ⟶ taken
+    ∷ step 200000 ⟶ grant 112000 3 normal 114000 1
+    ∷ step 200000 ⟶ rest 114000 1
+    ∷ step 200000 ⟶ quiet
+    ∷ [])
+    (record {
+      packets = 1;
+      ends = [];
+      limit = 115000;
+      unbroken = false;
+      next-turns = true;
+      run-to = true;
+      exactly = false;
+      in-time = true;
+    })
+
 -- `Unbroken` fails alone. The first list one bit time later: node 4's request isn't there at the
 -- frame's start, and its second packet ends one bit time behind the limit
 abbrev pub asked-late : Worked
@@ -371,7 +428,9 @@ not-run =
     })
 
 abbrev pub demand3-runs : List Worked
-demand3-runs = at-the-limit ∷ over-the-start ∷ ring-at-the-limit ∷ asked-late ∷ withdrawn-once ∷ made-normal ∷ turn-missed ∷ asked-once ∷ not-run ∷ []
+demand3-runs =
+    at-the-limit ∷ over-the-start ∷ ring-at-the-limit ∷ behind-a-laptop ∷ asked-late ∷ withdrawn-once ∷ made-normal ∷ taken-as-normal ∷ turn-missed
+    ∷ asked-once ∷ not-run ∷ []
 
 -- row by row: the text is answered so, the calls on its hub are answered so, and the figures are those
 pub record AllRight (rows : List Worked) : Type 0 where

@@ -2,7 +2,6 @@
 use Prim.Native.Nat.{ℕ, _≤_, _<_}
 use mathlib.Core.Path.{_≡_, refl, sym, _∙_, subst}
 use mathlib.Core.List.{List, [], _∷_}
-use native.Mathlib.Omega.{arith}
 use Rattle.rules.specs.Plan.{Plan}
 use Rattle.rules.specs.Call.{high, Call, time, taken}
 use Rattle.rules.specs.Core.{Core, Request, standing, fresh, frameOf, advance, at, due}
@@ -18,7 +17,7 @@ use Rattle.rules.proofs.Flat.Follows.{Follows}
 use Rattle.rules.proofs.Core.Sound.{Told}
 use Rattle.rules.proofs.Core.ClockAdvance.{advance-clock, due-late}
 use Rattle.rules.proofs.Core.AlwaysSound.{Good, good}
-use Rattle.rules.proofs.Core.WordsAndCore.{Tells, neither, plain, kept, made-normal, taken-normal, Reads, advance-reads}
+use Rattle.rules.proofs.Core.WordsAndCore.{Tells, neither, plain, kept, made-normal, taken-normal, not-both, Reads, advance-reads}
 use Rattle.rules.proofs.Core.OneMoreEntry.{refused-reads, quiet-reads, rest-reads, ask-reads, off-reads, until-reads, reserve-reads, grant-reads}
 use Rattle.rules.proofs.Laws.Clash.{clash}
 
@@ -80,10 +79,7 @@ module _ (p : Plan) (k : ℕ) (past : List Entry) (now : ℕ) where
   high-in-core neither t b e some ks = clash (cc)
   high-in-core (plain u c) t b e some ks = clash (cc)
   high-in-core (kept u c l n hs) t b e some ks = let f : c ≡ b = cc in cc
-  high-in-core (taken-normal u c l z) t b e some ks =
-      let v : u ≡ t = cc in
-      let none = subst (λ (x : ℕ). reserved p k (frameOf p x) past .packets ≡ 0) v z in
-      absurd (omega (arith, none, some))
+  high-in-core (taken-normal u c l z) t b e some ks = let v : u ≡ t = cc in absurd (not-both p k past u t v z some)
   high-in-core (made-normal u c f l m n) t b e some ks =
       let v : u ≡ t = cc in
       let w : c ≡ b = cc in

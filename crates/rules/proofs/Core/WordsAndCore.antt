@@ -38,6 +38,10 @@ pub record Reads (p : Plan) (past : List Entry) (s : Core) : Type 0 where
   pub none-later : (k f : ℕ) → frameOf p (s .clock) < f → highGrants p k f past ≡ []
 
 module _ (p : Plan) (k : ℕ) where
+  -- one event can't have come both where nothing was in force and where something was
+  pub not-both : (past : List Entry) (t u : ℕ) → t ≡ u → reserved p k (frameOf p t) past .packets ≡ 0 → 1 ≤ reserved p k (frameOf p u) past .packets → ⊥
+  not-both past t u same none some = let e = ap (λ (x : ℕ). reserved p k (frameOf p x) past .packets) same in omega (arith, e, none, some)
+
   -- what is reserved up to now is all that matters
   pub tells-on : {past on : List Entry} {now : ℕ} {a : Asked} {q : Request}
       → ((f : ℕ) → f ≤ now → reserved p k f on ≡ reserved p k f past) → Tells p k past now a q → Tells p k on now a q

@@ -13,24 +13,20 @@ use Rattle.rules.specs.Machine.{Machine, Hub, handled, stepAt, decided, 
 use Rattle.rules.specs.Strict.{asTaken}
 use Rattle.rules.proofs.Laws.Passes.{Which, which, yes′, no′}
 
--- a request as it is taken is put up as that: taking it twice is taking it once
-put-up-twice : (r : Share) (c : Class) → putUp r c ≡ putUp r (putUp r c)
-put-up-twice r normal = refl
-put-up-twice r high = go (which (eqb (r .packets) 0))
-  where
-    go : Which (eqb (r .packets) 0) → putUp r high ≡ putUp r (putUp r high)
-    go (yes′ e) = rw e
-    go (no′ e) = rw (e, e)
-
 module _ (p : Plan) where
-  -- row 16 refuses neither with n = 0 in force, as the plan isn't strict and the other is a normal one; else b decides of both
-  same-row : (r : Share) (c : Class) (b : ℕ) → unreserved (withStrict false p) r c b ≡ unreserved (withStrict true p) r (putUp r c) b
-  same-row r normal b = refl
-  same-row r high b = go (which (eqb (r .packets) 0))
+  -- What a request as it is taken meets, by the reservation in force: it is put up as that, and row 16 with the line says of it what it
+  -- says of the request without the line. With n = 0 neither is refused, the other being a normal one; else b decides of both
+  record Same (r : Share) (c : Class) (b : ℕ) : Type 0 where
+    pub put-up : putUp r c ≡ putUp r (putUp r c)
+    pub row : unreserved (withStrict false p) r c b ≡ unreserved (withStrict true p) r (putUp r c) b
+
+  same : (r : Share) (c : Class) (b : ℕ) → Same r c b
+  same r normal b = record { put-up = refl; row = refl }
+  same r high b = go (which (eqb (r .packets) 0))
     where
-      go : Which (eqb (r .packets) 0) → unreserved (withStrict false p) r high b ≡ unreserved (withStrict true p) r (putUp r high) b
-      go (yes′ e) = rw e
-      go (no′ e) = rw (e, e)
+      go : Which (eqb (r .packets) 0) → Same r high b
+      go (yes′ e) = record { put-up = rw e; row = rw e }
+      go (no′ e) = record { put-up = rw (e, e); row = rw (e, e) }
 
   -- instants are due as before, so row 12 is the same
   same-due-on : (l : Line) (s : Core) → dueOn l (withStrict false p) s ≡ dueOn l (withStrict true p) s
@@ -67,7 +63,7 @@ module _ (p : Plan) where
         let s = advance p t (h .core) in
         λ i. record {
           answer = taken;
-          hub = record { core = withRequest k (standing (put-up-twice (s .force k) c i) b) s; turn = h .turn };
+          hub = record { core = withRequest k (standing (same (s .force k) c b .put-up i) b) s; turn = h .turn };
         }
     same-decided accept (off t k) = refl
     same-decided accept (reserve t k n b) = refl
@@ -82,7 +78,7 @@ module _ (p : Plan) where
         let s = h .core in
         λ i. firstRow
         (row11 s t ∷ same-late s t i ∷ row13 p k ∷ row15 p b
-        ∷ record { number = 16; applies = same-row (advance p t s .force k) c b i } ∷ [])
+        ∷ record { number = 16; applies = same (advance p t s .force k) c b .row i } ∷ [])
     same-rows (off t k) = λ i. firstRow (row11 (h .core) t ∷ same-late (h .core) t i ∷ row13 p k ∷ [])
     same-rows (reserve t k n b) =
         let s = h .core in

@@ -8,11 +8,11 @@ use native.Mathlib.Omega.{arith}
 use Rattle.rules.specs.Plan.{Plan}
 use Rattle.rules.specs.Drawn.{Drawn, Figures}
 use Rattle.rules.specs.Call.{Class, normal, high, Call, step, grant}
-use Rattle.rules.specs.Core.{Core, standing, frameOf, advance, countsIn}
+use Rattle.rules.specs.Core.{Core, standing, advance, countsIn}
 use Rattle.rules.specs.Machine.{Machine, Hub, Outcome}
 use Rattle.rules.specs.Control.{control}
 use Rattle.rules.specs.Run.{Entry, made}
-use Rattle.rules.specs.Words.{reserved, High}
+use Rattle.rules.specs.Words.{High}
 use Rattle.rules.specs.AnyMoment.{packetsThen, PutUp}
 use Rattle.rules.specs.Strict.{TakenNormal, StaysNormal}
 use Rattle.rules.proofs.Laws.Clash.{clash}
@@ -21,6 +21,7 @@ use Rattle.rules.proofs.Flat.Turns.{node-counts}
 use Rattle.rules.proofs.Core.Instants.{Advanced, across, inside, advanced}
 use Rattle.rules.proofs.Core.Requests.{reclassed-high, counts-stands}
 use Rattle.rules.proofs.Core.CallCases.{Course, refusal, event, quietly, granting, resting, course}
+use Rattle.rules.proofs.Core.WordsAndCore.{not-both}
 use Rattle.rules.proofs.Core.AlwaysSound.{Good, good, turn-counts}
 use Rattle.rules.proofs.Core.HighExactly.{core-high}
 use Rattle.rules.proofs.Core.Places.{made-at}
@@ -29,8 +30,7 @@ use Rattle.rules.proofs.Control.FollowsFlat.{control-follows}
 not-high : (p : Plan) (k : ℕ) (past : List Entry) → TakenNormal p k past → High p k past → ⊥
 not-high p k past x h =
     let same : x .put-up ≡ h .put-up = cc in
-    let none = subst (λ (t : ℕ). reserved p k (frameOf p t) past .packets ≡ 0) same (x .unreserved) in
-    omega (arith, none, h .in-force)
+    not-both p k past (x .put-up) (h .put-up) same (x .unreserved) (h .in-force)
 
 not-put-up : (p : Plan) (k t : ℕ) (whole : List Entry) → packetsThen p k t whole ≡ 0 → PutUp p k t whole → ⊥
 not-put-up p k t whole none x = omega (arith, none, x .left)
