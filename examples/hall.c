@@ -20,10 +20,10 @@ static uint32_t say(uint64_t line, uint32_t number)
 /* Makes and prints all steps strictly before t. */
 static void run(uint64_t t)
 {
-    uint64_t a[6];
+    uint64_t a[LEMBUYA_ANSWER_NUMBERS];
     for (;;)
         switch (lembuya_step(plan, hub, t, a)) {
-        case LEMBUYA_GRANT: printf("(grant" N N N N N ")\n", a[1], a[2], a[3], a[4], a[5]); break;
+        case LEMBUYA_GRANT: printf("(grant" N N N N N N ")\n", a[1], a[2], a[3], a[4], a[5], a[6]); break;
         case LEMBUYA_REST: printf("(rest" N N ")\n", a[1], a[5]); break;
         default: return;
         }

@@ -17,9 +17,14 @@
 extern "C" {
 #endif
 
-/* The two tables that a caller lends. They may be copied, stored and moved as plain memory. */
+/* The two tables that a caller lends. They may be copied, stored and moved as plain memory. A cascade's table that was stored with 1,160
+ * cells, before request 1 of document 02, is copied into the first of these 1,672 with zeros behind it: the waits of requests that stood
+ * at that moment are then counted from time 0. A program that was built with the header of then lends too little, 1,160 cells and six
+ * numbers for an answer, and the archive writes behind them: build it anew. */
 #define LEMBUYA_PLAN_CELLS 1672
-#define LEMBUYA_CASCADE_CELLS 1160
+#define LEMBUYA_CASCADE_CELLS 1672
+/* How many numbers an answer has, a step's and in a list. */
+#define LEMBUYA_ANSWER_NUMBERS 7
 
 /* Numbers: 0 is done or taken; the others are those of document 01, "Where each no is said", and of document 02's requests that have
  * landed. A refusal leaves all that is lent as it was, but for a refused plan's line. */
@@ -41,7 +46,7 @@ enum {
     LEMBUYA_SHORT = 18      /* a lent buffer or table is too short: nothing is written there */
 };
 
-/* Cases of an answer, the first of its six numbers and what a step returns; any other is the number of the row that refused it. */
+/* Cases of an answer, the first of its seven numbers and what a step returns; any other is the number of the row that refused it. */
 enum { LEMBUYA_TAKEN = 0, LEMBUYA_GRANT = 1, LEMBUYA_REST = 2, LEMBUYA_QUIET = 3 };
 
 /* Classes: 1 normal, 2 high. */
@@ -86,13 +91,18 @@ uint32_t lembuya_off(const uint32_t plan[LEMBUYA_PLAN_CELLS], uint32_t cascade[L
 uint32_t lembuya_reserve(const uint32_t plan[LEMBUYA_PLAN_CELLS], uint32_t cascade[LEMBUYA_CASCADE_CELLS], uint64_t t, uint64_t k, uint64_t n, uint64_t b);
 uint32_t lembuya_until(const uint32_t plan[LEMBUYA_PLAN_CELLS], uint32_t cascade[LEMBUYA_CASCADE_CELLS], uint64_t t);
 
-/* A step with bound t handles the due instant if it is strictly before t. Its answer is six numbers: the case (also returned), time, node,
- * class, end and moves; a number that its case doesn't have is 0. Refused: its number is returned, and `answer` is as it was. */
-uint32_t lembuya_step(const uint32_t plan[LEMBUYA_PLAN_CELLS], uint32_t cascade[LEMBUYA_CASCADE_CELLS], uint64_t t, uint64_t answer[6]);
+/* A step with bound t handles the due instant if it is strictly before t. Its answer is seven numbers: the case (also returned), time,
+ * node, class, end, moves and wait; a number that its case doesn't have is 0. Refused: its number is returned, and `answer` is as it was.
+ * The wait is how long the request that is granted stood: the grant's time less the time at which it was first put up. A replacing
+ * request of the same class keeps that time. A change of class sets it anew, also the change at a frame's start, which is then that time
+ * however much later the call comes; a high request that is taken as normal is a normal one. Behind an off or a grant the next request is
+ * a new one. In a table of any content in which the recorded time is later than the grant's, the wait is 0. */
+uint32_t lembuya_step(const uint32_t plan[LEMBUYA_PLAN_CELLS], uint32_t cascade[LEMBUYA_CASCADE_CELLS], uint64_t t,
+                      uint64_t answer[LEMBUYA_ANSWER_NUMBERS]);
 
 /* Many calls in one: `calls` has five numbers a call (kind, t, k, n, b; a number that its kind doesn't have is not looked at), and
- * `answers` gets six an answer, as a step's; an event's case is 0 or its row's number. 0, or 1 (`calls` ends within a call or has a call
- * of no kind) or 18 (`answers` is too short), and then nothing is done. Lengths count numbers, not bytes. */
+ * `answers` gets seven an answer, as a step's; an event's case is 0 or its row's number. 0, or 1 (`calls` ends within a call or has a
+ * call of no kind) or 18 (`answers` is shorter than seven for each call), and then nothing is done. Lengths count numbers, not bytes. */
 uint32_t lembuya_list(const uint32_t plan[LEMBUYA_PLAN_CELLS], uint32_t cascade[LEMBUYA_CASCADE_CELLS], const uint64_t *calls, size_t calls_length,
                       uint64_t *answers, size_t answers_length);
 

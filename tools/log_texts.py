@@ -7,7 +7,8 @@
 `stdin` holds the texts with a byte 0 between one and the next; `stdout` holds their logs, each followed by a line `--`.
 The texts stand in tools/texts, by subject. The logs are those of the model. It must give each vector's own file, where
 several requests have one that of the last to land; each log that is `worked`, by hand from document 01 and the requests that landed, and
-stated with its text; and of each plan text the first line that is stated there. Where it doesn't, nothing is written and the script fails.
+stated with its text; and of each plan text the first line that is stated there. Each wait is worked out a second time, from the calls and
+answers alone. Where something differs, nothing is written and the script fails.
 """
 import collections
 import pathlib
@@ -15,13 +16,14 @@ import sys
 
 from model.figures import MOST_TEXT_BYTES
 from model.log import log
+from model.waits import hold_text
 from texts import (
     control, depths, forms, framing, held, largest, moves, order, plans, random_texts, ranges, requests, reservations, rows, strict, suite,
-    trials, vectors)
+    trials, vectors, waits, waits_at_starts)
 
 SUBJECTS = (
-    plans, vectors, trials, forms, rows, reservations, order, held, ranges, requests, control, moves, depths, framing, strict, largest,
-    random_texts)
+    plans, vectors, trials, forms, rows, reservations, order, held, ranges, requests, control, moves, depths, framing, strict, waits,
+    waits_at_starts, largest, random_texts)
 CASES = [case for subject in SUBJECTS for case in subject.cases]
 ORIGINS = ('plan', 'vector', 'worked', 'reference')
 MOST_INPUT_BYTES = 1048576  # of the program, all texts together
@@ -67,12 +69,14 @@ def write(folder):
     hold_against_stated(logs)
     stdin, stdout = b'\0'.join(case.text for case in CASES), b''.join(each + b'--\n' for each in logs)
     hold_to_the_suite(stdin)
+    waited = sum(hold_text(case.text) for case in CASES)
     folder.mkdir(exist_ok=True)
     (folder / 'stdin').write_bytes(stdin)
     (folder / 'stdout').write_bytes(stdout)
     counts = collections.Counter(case.origin for case in CASES)
     origins = ', '.join(f'{counts[origin]} {origin}' for origin in ORIGINS)
-    print(f'{len(CASES)} texts ({origins}), {len(stdin)} bytes; logs {len(stdout)} bytes; longer than 65,536: {texts_too_long()}')
+    print(f'{len(CASES)} texts ({origins}), {len(stdin)} bytes; logs {len(stdout)} bytes, {waited} grants that waited; '
+          f'longer than 65,536: {texts_too_long()}')
 
 
 def main():

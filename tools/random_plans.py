@@ -5,11 +5,12 @@
 
 The texts are plans at and past every limit, many of them damaged: bytes changed, cut out or put in, lines cut and swapped. Some have a
 framing line or the line `(strict)`, in its place or elsewhere, or what is none; the events behind have lengths at the ends of both
-framings, and high requests with and without a share. A batch is some 480,000 bytes of texts, separated by byte 0. It is no part of the
-gate.
+framings, high requests with and without a share, and requests that wait, are replaced in either class and stand over a frame's start.
+A batch is some 480,000 bytes of texts, separated by byte 0. It is no part of the gate.
 """
 import collections
 import random
+import re
 import subprocess
 import sys
 
@@ -67,10 +68,15 @@ def put_strict(rng, lines):
 
 
 def random_events(rng):
-    """Requests of nodes 1 and 2 and reservations of node 1: the plan's framing takes some, and before one is in force n is 0."""
+    """Requests of nodes 1 and 2 and reservations of node 1: the plan's framing takes some, and before one is in force n is 0. Where `last`
+    is a frame's start, a packet of node 2 runs over it, and node 1's request may be turned there; else they wait within a frame."""
     late = FRAME_RANGE[1]  # in no plan's frame 0
-    events = [b'(until 5)', b'(normal 5 1 %d)', b'(high 5 1 %d)', b'(reserve 6 1 1 %d)', b'(reserve 7 1 2 %d)', b'(high %d 1 %%d)' % late,
-              b'(high %d 2 %%d)' % late, b'(reserve %d 1 0 0)' % late, b'(high %d 1 %%d)' % (2 * late), b'(until %d)' % (2 * late + 1)]
+    last = 2 * late
+    events = [b'(until 5)', b'(normal 5 1 %d)', b'(high 5 1 %d)', b'(reserve 6 1 1 %d)', b'(reserve 7 1 2 %d)', b'(normal 8 2 %d)',
+              b'(high 9 2 %d)', b'(high %d 1 %%d)' % late, b'(high %d 2 %%d)' % late, b'(high %d 1 %%d)' % (late + 100),
+              b'(reserve %d 1 0 0)' % (late + 200), b'(normal %d 2 %%d)' % (last - 300), b'(high %d 1 %%d)' % (last - 200),
+              b'(reserve %d 1 0 0)' % (last - 100), b'(reserve %d 1 1 %%d)' % (last - 50), b'(high %d 1 %%d)' % last,
+              b'(until %d)' % (last + 1), b'(normal %d 1 %%d)' % (last + 100), b'(until %d)' % (last + late)]
     chosen = [event for event in events if rng.random() < .6]
     return [event % rng.choice(LENGTHS) if b'%d' in event else event for event in chosen]
 
@@ -137,18 +143,24 @@ def kind_of(text, log):
     return ' '.join(['taken with', *(lines[3:lines.index('(hub')] or ['neither'])])
 
 
+def waited(log):
+    """How many of its grants waited."""
+    return len(re.findall(rb'(?m)^\(grant .* [1-9][0-9]*\)$', log))
+
+
 def main():
     seed, batches = ([int(x) for x in sys.argv[1:]] + [1, 20][len(sys.argv) - 1:])[:2]
     if not PROGRAM.exists():
         sys.exit(f"random_plans: 'rt check {PROGRAM.name}' builds the program first")
-    rng, kinds = random.Random(seed), collections.Counter()
+    rng, kinds, waits = random.Random(seed), collections.Counter(), 0
     for _ in range(batches):
         texts = random_batch(rng)
         for text, written in zip(texts, logs_of(texts)):
             if written != log(text):
                 sys.exit(f'random_plans: {written!r} for a text whose log is {log(text)!r} (seed {seed}):\n{text!r}')
             kinds[kind_of(text, written)] += 1
-    print(f'{sum(kinds.values())} texts agree;', dict(kinds.most_common()))
+            waits += waited(written)
+    print(f'{sum(kinds.values())} texts agree, with {waits} grants that waited;', dict(kinds.most_common()))
 
 
 if __name__ == '__main__':

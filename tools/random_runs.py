@@ -6,10 +6,12 @@
 Each run is a random plan of either framing, strict or not, and a random list of calls, refused ones among them and high requests of nodes
 that have reserved nothing. Its answers by the model are written as a theorem about the definitions (`answers p (control p) calls` is this
 list), which the checker computes; and so are those by the rule 2 that document 01 had before (`fromRoot`), and the returns of the root's
-pointer in each call (`callReturns`). Request 13's bound is held against the model's own moves and returns. For some high requests of each
-list, up to two taken as normal among them, request 5's premises, the grant and the limit are looked up in the list by the model, and by the
-definitions there (`figures` of `AnyMomentRuns`); where all premises hold, the grant is held against the limit. It works in a temporary
-folder; it is no part of the gate.
+pointer in each call (`callReturns`), and the wait of each grant, once as the definitions record it (`watched`) and once by request 1's
+words (`standAt`). Request 13's bound is held against the model's own moves and returns, and so are the model's waits and every node's
+recorded time behind each call against its own reading of request 1's words, which know calls and answers alone. For some high requests of
+each list, up to two taken as normal among them, request 5's premises, the grant and the limit are looked up in the list by the model, and
+by the definitions there (`figures` of `AnyMomentRuns`); where all premises hold, the grant is held against the limit. It works in a
+temporary folder; it is no part of the gate.
 """
 import collections
 import pathlib
@@ -25,6 +27,7 @@ from model.figures import LATEST_TIME, LONGEST_PACKETS, MOST_LEVELS, MOST_PACKET
 from model.hub import Hub, run
 from model.plan import plan_of
 from model.travel import farthest
+from model.waits import hold_records, hold_waits
 from model.words import accepted, puts_up_high
 from theorems import HEAD, list_theorem, wait_theorem
 
@@ -121,13 +124,30 @@ def first_calls(rng, plan):
     return [*reserves, call('until', plan.frame)] if rng.random() < .5 else []
 
 
+def calls_over_a_start(rng, hub):
+    """A packet runs over the next frame start while a high request stands, for whose node less, nothing or the same is reserved; the first
+    call behind the start may replace the request. Of a hub at which other instants are due, rows refuse most of them."""
+    core, start, longest = hub.core, hub.core.next_frame(), hub.plan.longest_packet
+    reserved = [k for k in range(1, hub.plan.nodes + 1) if core.force[k].n > 0]
+    if not reserved:
+        return []
+    k, t = rng.choice(reserved), max(core.clock, start - rng.randint(10, 9000))
+    n, b = core.force[k]
+    share = rng.choice([(0, 0), (n, b), (n, max(hub.plan.shortest_packet, b - 1))])
+    later = start + rng.randint(0, 1500)
+    asked = [call(word, later, k, rng.choice([600, b])) for word in rng.sample(['normal', 'high', 'normal'], rng.randint(0, 2))]
+    return [call('step', t), call('normal', t, rng.randint(1, hub.plan.nodes), longest), call('step', t + 1),
+            call('high', t + 2, k, b), call('reserve', t + 3, k, *share), *asked, call('step', start + longest + hub.plan.overhead)]
+
+
 def random_run(rng, plan, count):
     """The entries of so many calls. Half of the lists are loaded: so many requests stand that the line seldom rests."""
-    hub, loaded, entries = Hub(plan), rng.random() < .5, []
-    first = first_calls(rng, plan)
-    for i in range(count):
-        if i < len(first):
-            made = first[i]
+    hub, loaded, entries, next_calls = Hub(plan), rng.random() < .5, [], first_calls(rng, plan)
+    while len(entries) < count:
+        if not next_calls and rng.random() < .06:
+            next_calls = calls_over_a_start(rng, hub)
+        if next_calls:
+            made = next_calls.pop(0)
         else:
             made = loaded_call(rng, hub) if loaded and rng.random() < .8 else random_call(rng, hub)
         entries.append(hub.enter(made))
@@ -162,6 +182,7 @@ class Tally:
     def __init__(self):
         self.answers, self.waits = collections.Counter(), collections.Counter()
         self.most_moves = self.other_moves = self.returns = self.farthest = self.taken_as_normal = 0
+        self.waited = self.records = 0
 
     def add_list(self, plan, entries, by_root):
         for answer in (entry.answer for entry in entries):
@@ -170,6 +191,8 @@ class Tally:
         self.other_moves += sum(entry.answer != old.answer for entry, old in zip(entries, by_root))
         self.returns += sum(entry.returns for entry in entries)
         self.farthest += farthest(plan, entries)
+        self.waited += hold_waits(plan, entries)
+        self.records += hold_records(plan, [entry.call for entry in entries])
         self.taken_as_normal += sum(accepted(entry, 'high') and not puts_up_high(plan, entries, i) for i, entry in enumerate(entries))
 
     def add_wait(self, wait):
@@ -183,6 +206,7 @@ class Tally:
     def __str__(self):
         return (f'at most {self.most_moves} moves, {self.other_moves} steps with other moves than by the root, {self.returns} returns, '
                 f'request 13 met {self.farthest} times, {self.taken_as_normal} high requests taken as normal; '
+                f'request 1: {self.waited} grants that waited, {self.records} records; '
                 f'request 5: {dict(self.waits.most_common())} {dict(self.answers.most_common())}')
 
 

@@ -1,5 +1,5 @@
 #!/usr/bin/env python3
-"""The program of document 01, with requests 3, 4 and 8 of document 02, by the model of tools/model: a text in, its log out.
+"""The program of document 01, with requests 1, 3, 4 and 8 of document 02, by the model of tools/model: a text in, its log out.
 
     python3 tools/reference.py < TEXT                as a module: log(text: bytes) -> bytes
     python3 tools/reference.py --vectors FOLDER      holds it against each FOLDER/*.text and its *.log

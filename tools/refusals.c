@@ -9,7 +9,7 @@
 /* All that a call is lent. */
 static struct lent {
     uint32_t plan[LEMBUYA_PLAN_CELLS], hub[LEMBUYA_CASCADE_CELLS];
-    uint64_t told[4], answer[6], answers[6], end[1];
+    uint64_t told[4], answer[LEMBUYA_ANSWER_NUMBERS], answers[LEMBUYA_ANSWER_NUMBERS], end[1];
     uint8_t log[16];
 } lent, expected;
 static int calls, wrong;
@@ -71,7 +71,7 @@ static void longest(void)
 static void strict(void)
 {
     static uint32_t table[LEMBUYA_PLAN_CELLS], hub[LEMBUYA_CASCADE_CELLS];
-    uint64_t told[4], answer[6];
+    uint64_t told[4], answer[LEMBUYA_ANSWER_NUMBERS];
     IS(1, lembuya_strict(lent.plan));
     IS(0, lembuya_strict(table));
     IS(LEMBUYA_OK, lembuya_read((const uint8_t *)FIGURES TREE, sizeof FIGURES TREE - 1, table, told));
@@ -80,6 +80,30 @@ static void strict(void)
     IS(LEMBUYA_OK, lembuya_high(table, hub, 0, 1, 12000));
     IS(LEMBUYA_GRANT, lembuya_step(table, hub, 1, answer));
     IS(LEMBUYA_NORMAL, answer[3]);
+}
+
+/* What a step tells of waits. A refused request changes no recorded time, one of the same class keeps it, and a table of 1,160 cells, as
+ * they were stored before, with zeros behind it counts from 0. */
+static void waits(void)
+{
+    enum { CELLS_BEFORE = 1160 };
+    static uint32_t table[LEMBUYA_PLAN_CELLS], hub[LEMBUYA_CASCADE_CELLS], stored[LEMBUYA_CASCADE_CELLS];
+    static const char two[] = FIGURES "(strict)\n(hub\n(node)\n(node)\n)\n";
+    uint64_t told[4], answer[LEMBUYA_ANSWER_NUMBERS];
+    IS(LEMBUYA_OK, lembuya_read((const uint8_t *)two, sizeof two - 1, table, told));
+    lembuya_fresh(hub);
+    IS(LEMBUYA_OK, lembuya_normal(table, hub, 5, 1, 12000));
+    IS(LEMBUYA_GRANT, lembuya_step(table, hub, 6, answer));
+    IS(0, answer[6]);
+    IS(LEMBUYA_OK, lembuya_normal(table, hub, 100, 2, 512));
+    IS(LEMBUYA_LENGTH, lembuya_normal(table, hub, 200, 2, 511));
+    IS(LEMBUYA_UNRESERVED, lembuya_high(table, hub, 200, 2, 512));
+    IS(LEMBUYA_OK, lembuya_normal(table, hub, 300, 2, 1000));
+    memcpy(stored, hub, CELLS_BEFORE * sizeof *hub);
+    IS(LEMBUYA_GRANT, lembuya_step(table, hub, 20000, answer));
+    IS(13005 - 100, answer[6]);
+    IS(LEMBUYA_GRANT, lembuya_step(table, stored, 20000, answer));
+    IS(13005, answer[6]);
 }
 
 /* From clock 10, where node 1's request is due. */
@@ -95,10 +119,10 @@ static void events(void)
     IS(LEMBUYA_DUE, lembuya_until(lent.plan, lent.hub, 11));
 }
 
-/* A refused step writes none of its six numbers. Quiet is no refusal and writes them, last here. */
+/* A refused step writes none of its seven numbers. Quiet is no refusal and writes them, last here. */
 static void steps(void)
 {
-    static const uint64_t quiet[6] = { LEMBUYA_QUIET, 0, 0, 0, 0, 0 };
+    static const uint64_t quiet[LEMBUYA_ANSWER_NUMBERS] = { LEMBUYA_QUIET, 0, 0, 0, 0, 0, 0 };
     IS(LEMBUYA_TIME, lembuya_step(lent.plan, lent.hub, 9, lent.answer));
     IS(LEMBUYA_TIME, lembuya_step(lent.plan, lent.hub, UINT64_C(1000000000000001), lent.answer));
     memcpy(expected.answer, quiet, sizeof quiet);
@@ -108,9 +132,9 @@ static void steps(void)
 static void lists_and_runs(void)
 {
     static const uint64_t off[5] = { LEMBUYA_CALL_OFF, 10, 1, 0, 0 }, no_kind[5] = { 7, 10, 1, 0, 0 };
-    IS(LEMBUYA_FORM, lembuya_list(lent.plan, lent.hub, off, 4, lent.answers, 6));
-    IS(LEMBUYA_FORM, lembuya_list(lent.plan, lent.hub, no_kind, 5, lent.answers, 6));
-    IS(LEMBUYA_SHORT, lembuya_list(lent.plan, lent.hub, off, 5, lent.answers, 5));
+    IS(LEMBUYA_FORM, lembuya_list(lent.plan, lent.hub, off, 4, lent.answers, 7));
+    IS(LEMBUYA_FORM, lembuya_list(lent.plan, lent.hub, no_kind, 5, lent.answers, 7));
+    IS(LEMBUYA_SHORT, lembuya_list(lent.plan, lent.hub, off, 5, lent.answers, 6));
     IS(LEMBUYA_SHORT, lembuya_run((const uint8_t *)PLAN, sizeof PLAN - 1, lent.plan, lent.hub, lent.log, sizeof lent.log, lent.end));
 }
 
@@ -127,6 +151,7 @@ int main(void)
     plans();
     longest();
     strict();
+    waits();
     events();
     steps();
     lists_and_runs();

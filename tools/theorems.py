@@ -1,10 +1,10 @@
 """Lists of calls with their answers by the model, written as theorems about the definitions of crates/rules, which the checker computes."""
-from model.calls import CLASSES, class_name
+from model.calls import CLASSES, Grant, class_name
 
 HEAD = '''use Prim.Native.Nat.{ℕ}
 use mathlib.Core.Path.{_≡_, refl}
 use mathlib.Core.Bool.{true, false}
-use mathlib.Core.List.{List, [], _∷_}
+use mathlib.Core.List.{List, [], _∷_, reverse}
 use lib.ListN.{getD}
 use Rattle.rules.specs.Plan.{Plan, Port, node, empty, hub}
 use Rattle.rules.specs.Call.{Class, normal, high, Call, ask, off, reserve, until, step, Answer, taken, refused, grant, rest, quiet}
@@ -18,6 +18,9 @@ use Rattle.rules.specs.Travel.{walkReturns, chooseReturns, callReturns}
 use Rattle.rules.specs.Words.{clockAt, reserved, highGrants}
 use Rattle.rules.specs.AnyMoment.{Grant, none, granted, firstGrant, keptStanding, waitLimit}
 use Rattle.rules.specs.AnyMomentRuns.{Figures, figures}
+use Rattle.rules.specs.WaitWords.{upAt}
+use Rattle.rules.specs.Waits.{comeTo, watched}
+use Rattle.rules.specs.WaitRuns.{waitsSeen, waitsTold}
 
 -- the returns in each call of a list, from a hub on
 unfoldable along : Plan → Hub Control → List Call → List ℕ
@@ -37,7 +40,9 @@ def as_call(call):
 
 
 def as_answer(answer):
-    numbers = [class_name(value) if field == 'class_' else str(value) for field, value in vars(answer).items()]
+    """A grant without its wait, which is held against the definitions apart from the answers."""
+    fields = [(field, value) for field, value in vars(answer).items() if field != 'wait']
+    numbers = [class_name(value) if field == 'class_' else str(value) for field, value in fields]
     return ' '.join([answer.word(), *numbers])
 
 
@@ -86,8 +91,10 @@ def as_plan(plan):
 
 
 def list_theorem(i, plan, entries, by_root):
-    """The answers, the returns of the root's pointer in each call, and the answers by the rule 2 that document 01 had."""
+    """The answers, the returns of the root's pointer in each call, the grants' waits as they are recorded and as the words tell them,
+    and the answers by the rule 2 that document 01 had."""
     opened = f'unfolding calls{i} any sum first advance countsIn counts held due sought below lowest walk perform made'
+    waits = as_list(str(entry.wait) for entry in entries if isinstance(entry.answer, Grant))
     return f'''abbrev p{i} : Plan
 p{i} = {as_plan(plan)}
 
@@ -104,6 +111,17 @@ right{i} = refl
 returned{i} : along p{i} (freshHub p{i} (control p{i})) calls{i} ≡ {as_list(str(entry.returns) for entry in entries)}
 {opened} led nearest chooseBy walkReturns chooseReturns along
 returned{i} = refl
+
+waits{i} : List ℕ
+waits{i} = {waits}
+
+waited{i} : reverse (waitsSeen (watched p{i} (control p{i}) (reverse calls{i}) .past)) ≡ waits{i}
+{opened} led nearest chooseBy waits{i} watched comeTo waitsSeen
+waited{i} = refl
+
+waitTold{i} : reverse (waitsTold p{i} (made p{i} (control p{i}) (reverse calls{i}) .past)) ≡ waits{i}
+{opened} led nearest chooseBy waits{i} reserved upAt waitsTold
+waitTold{i} = refl
 
 byRoot{i} : List Answer
 byRoot{i} = {as_answers(by_root)}

@@ -1,6 +1,6 @@
 //! The six calls and their answers as values.
 
-use crate::Refused;
+use crate::{ffi, Refused};
 use std::fmt;
 
 /// A call of a [`Cascade`](crate::Cascade) as a value: one of the five events, or the step.
@@ -164,7 +164,7 @@ impl Class {
 
 /// What a step did.
 ///
-/// `Display` is the log's form: `(grant s k class end moves)` and `(rest s moves)`. The log has no
+/// `Display` is the log's form: `(grant s k class end moves wait)` and `(rest s moves)`. The log has no
 /// line for quiet, which shows as `(quiet)`.
 ///
 /// ```
@@ -174,8 +174,8 @@ impl Class {
 /// let mut hub = plan.cascade();
 /// hub.normal(500, 1, 12_000)?;
 /// let grant = hub.step(501)?;
-/// assert_eq!(grant, Step::Grant { time: 500, node: 1, class: Class::Normal, end: 13_500, moves: 0 });
-/// assert_eq!(grant.to_string(), "(grant 500 1 1 13500 0)");
+/// assert_eq!(grant, Step::Grant { time: 500, node: 1, class: Class::Normal, end: 13_500, moves: 0, wait: 0 });
+/// assert_eq!(grant.to_string(), "(grant 500 1 1 13500 0 0)");
 /// assert_eq!(hub.step(13_500)?, Step::Quiet); // the line ends at its bound, not before it
 /// assert_eq!(hub.step(13_501)?.to_string(), "(rest 13500 0)");
 /// # Ok::<(), Box<dyn std::error::Error>>(())
@@ -195,6 +195,8 @@ pub enum Step {
         end: u64,
         /// How often control passed between two hubs.
         moves: u64,
+        /// How long the request stood: the time of the grant less the time at which it was [first put up](Step::put_up).
+        wait: u64,
     },
     /// The line's busy time ended and no request counts.
     Rest {
@@ -207,11 +209,41 @@ pub enum Step {
     Quiet,
 }
 
+impl Step {
+    /// When the request that is granted was first put up: the grant's time less its wait. None where nothing is granted.
+    ///
+    /// A request of the same class that replaces it keeps that time, and a change of class sets it anew: that of a request which a
+    /// frame's start turns normal is that start. A high event that is taken as normal puts up a normal request. Behind an `off` or
+    /// a grant the next request is a new one.
+    ///
+    /// ```
+    /// use lembuya::Plan;
+    ///
+    /// let plan = Plan::read(b"(frame 100000)\n(overhead 1000)\n(interrupt 13000)\n(hub\n(node)\n(node)\n)\n")?;
+    /// let mut hub = plan.cascade();
+    /// hub.normal(0, 1, 12_000)?;
+    /// hub.normal(0, 2, 6_000)?;
+    /// assert_eq!(hub.step(1)?.to_string(), "(grant 0 1 1 13000 0 0)");
+    /// hub.normal(5_000, 2, 8_000)?; // node 2 now asks for more, and has waited from 0 on all the same
+    /// let grant = hub.step(13_001)?;
+    /// assert_eq!(grant.to_string(), "(grant 13000 2 1 22000 0 13000)");
+    /// assert_eq!(grant.put_up(), Some(0));
+    /// # Ok::<(), Box<dyn std::error::Error>>(())
+    /// ```
+    pub fn put_up(self) -> Option<u64> {
+        match self {
+            // No wait is longer than its grant's time, whatever a table holds.
+            Step::Grant { time, wait, .. } => Some(time.saturating_sub(wait)),
+            Step::Rest { .. } | Step::Quiet => None,
+        }
+    }
+}
+
 impl fmt::Display for Step {
     fn fmt(&self, f: &mut fmt::Formatter<'_>) -> fmt::Result {
         match self {
-            Step::Grant { time, node, class, end, moves } => {
-                write!(f, "(grant {time} {node} {} {end} {moves})", class.number())
+            Step::Grant { time, node, class, end, moves, wait } => {
+                write!(f, "(grant {time} {node} {} {end} {moves} {wait})", class.number())
             }
             Step::Rest { time, moves } => write!(f, "(rest {time} {moves})"),
             Step::Quiet => f.write_str("(quiet)"),
@@ -235,7 +267,7 @@ impl fmt::Display for Step {
 ///     Call::Step { bound: 1 },
 /// ]);
 /// assert_eq!(answers[..2], [Answer::Taken, Answer::Refused(Refused::Unreserved)]);
-/// assert_eq!(answers[2].to_string(), "(grant 0 1 1 13000 0)");
+/// assert_eq!(answers[2].to_string(), "(grant 0 1 1 13000 0 0)");
 /// # Ok::<(), lembuya::PlanRefused>(())
 /// ```
 #[derive(Clone, Copy, Debug, PartialEq, Eq, Hash)]
@@ -249,13 +281,13 @@ pub enum Answer {
 }
 
 impl Answer {
-    /// The answer that the archive's six numbers are: case, time, node, class, end and moves.
-    pub(crate) fn numbered([case, time, node, class, end, moves]: [u64; 6]) -> Answer {
+    /// The answer that the archive's seven numbers are: case, time, node, class, end, moves and wait.
+    pub(crate) fn numbered([case, time, node, class, end, moves, wait]: ffi::Answer) -> Answer {
         match case {
             0 => Answer::Taken,
             1 => {
                 let class = Class::numbered(class);
-                Answer::Step(Step::Grant { time, node, class, end, moves })
+                Answer::Step(Step::Grant { time, node, class, end, moves, wait })
             }
             2 => Answer::Step(Step::Rest { time, moves }),
             3 => Answer::Step(Step::Quiet),
@@ -298,8 +330,8 @@ mod tests {
 
     #[test]
     fn answers_are_shown_in_the_logs_form() {
-        let (time, node, end, moves) = (112_000, 3, 117_000, 2);
-        let grant = Step::Grant { time, node, class: Class::High, end, moves };
+        let (time, node, end, moves, wait) = (112_000, 3, 117_000, 2, 12_000);
+        let grant = Step::Grant { time, node, class: Class::High, end, moves, wait };
         let answers = [
             Answer::Taken,
             Answer::Step(grant),
@@ -309,18 +341,27 @@ mod tests {
         ];
         assert_eq!(
             answers.map(|answer| answer.to_string()),
-            ["(taken)", "(grant 112000 3 2 117000 2)", "(rest 119000 0)", "(quiet)", "(refused 17)"]
+            ["(taken)", "(grant 112000 3 2 117000 2 12000)", "(rest 119000 0)", "(quiet)", "(refused 17)"]
         );
     }
 
     #[test]
-    fn six_numbers_are_an_answer() {
-        let (time, node, end, moves) = (7, 4, 9, 3);
-        let grant = Step::Grant { time, node, class: Class::Normal, end, moves };
-        assert_eq!(Answer::numbered([0, 0, 0, 0, 0, 0]), Answer::Taken);
-        assert_eq!(Answer::numbered([1, 7, 4, 1, 9, 3]), Answer::Step(grant));
-        assert_eq!(Answer::numbered([2, 7, 0, 0, 0, 3]), Answer::Step(Step::Rest { time, moves }));
-        assert_eq!(Answer::numbered([3, 0, 0, 0, 0, 0]), Answer::Step(Step::Quiet));
-        assert_eq!(Answer::numbered([12, 0, 0, 0, 0, 0]), Answer::Refused(Refused::Due));
+    fn seven_numbers_are_an_answer() {
+        let (time, node, end, moves, wait) = (7, 4, 9, 3, 5);
+        let grant = Step::Grant { time, node, class: Class::Normal, end, moves, wait };
+        assert_eq!(Answer::numbered([0, 0, 0, 0, 0, 0, 0]), Answer::Taken);
+        assert_eq!(Answer::numbered([1, 7, 4, 1, 9, 3, 5]), Answer::Step(grant));
+        assert_eq!(Answer::numbered([2, 7, 0, 0, 0, 3, 0]), Answer::Step(Step::Rest { time, moves }));
+        assert_eq!(Answer::numbered([3, 0, 0, 0, 0, 0, 0]), Answer::Step(Step::Quiet));
+        assert_eq!(Answer::numbered([12, 0, 0, 0, 0, 0, 0]), Answer::Refused(Refused::Due));
+    }
+
+    #[test]
+    fn a_grant_tells_when_its_request_was_put_up() {
+        let grant =
+            |time, wait| Step::Grant { time, node: 1, class: Class::High, end: time + 1, moves: 0, wait };
+        assert_eq!(grant(117_000, 17_000).put_up(), Some(100_000));
+        assert_eq!(grant(5, 5).put_up(), Some(0));
+        assert_eq!([Step::Rest { time: 5, moves: 0 }, Step::Quiet].map(Step::put_up), [None, None]);
     }
 }

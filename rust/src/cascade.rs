@@ -24,7 +24,7 @@ use std::iter::FusedIterator;
 /// hub.until(100_000)?;
 /// hub.high(100_000, 1, 4_000)?;
 /// assert_eq!(hub.until(100_001), Err(Refused::Due)); // a grant at 100,000 comes first
-/// assert_eq!(hub.step(100_001)?.to_string(), "(grant 100000 1 2 105000 0)");
+/// assert_eq!(hub.step(100_001)?.to_string(), "(grant 100000 1 2 105000 0 0)");
 /// hub.until(100_001)?;
 /// # Ok::<(), Box<dyn std::error::Error>>(())
 /// ```
@@ -47,7 +47,7 @@ impl Cascade {
     }
 
     /// `(normal t k b)`: a normal request of `node` stands from `t` on, for a packet of `bits`, in
-    /// place of any earlier one of its own.
+    /// place of any earlier one of its own. In place of a normal one it [waits](Step::put_up) from where that did, else from `t`.
     ///
     /// # Errors
     ///
@@ -57,7 +57,7 @@ impl Cascade {
     }
 
     /// `(high t k b)`: a high request of `node` stands from `t` on, for a packet of `bits`, in place
-    /// of any earlier one of its own.
+    /// of any earlier one of its own. In place of a high one it [waits](Step::put_up) from where that did, else from `t`.
     ///
     /// Where `node` has nothing reserved in force at `t`, it is a [normal](Cascade::normal) request that stands, and its grant
     /// is of class 1; it stays normal if a reservation comes into force meanwhile. A [strict](Plan::is_strict) plan refuses it
@@ -85,11 +85,11 @@ impl Cascade {
     /// // Taken as normal: it comes behind the camera, in class 1.
     /// let (laptop, turns) = hall("")?;
     /// assert_eq!(laptop, Ok(()));
-    /// assert_eq!(turns, ["(grant 100000 1 2 105000 0)", "(grant 105000 2 1 118000 0)", "(rest 118000 0)"]);
+    /// assert_eq!(turns, ["(grant 100000 1 2 105000 0 0)", "(grant 105000 2 1 118000 0 5000)", "(rest 118000 0)"]);
     /// // With the line it has no turn.
     /// let (laptop, turns) = hall("(strict)\n")?;
     /// assert_eq!(laptop, Err(Refused::Unreserved));
-    /// assert_eq!(turns, ["(grant 100000 1 2 105000 0)", "(rest 105000 0)"]);
+    /// assert_eq!(turns, ["(grant 100000 1 2 105000 0 0)", "(rest 105000 0)"]);
     /// # Ok::<(), Box<dyn std::error::Error>>(())
     /// ```
     ///
@@ -167,7 +167,7 @@ impl Cascade {
     /// entered once for the whole list.
     pub fn calls(&mut self, calls: &[Call]) -> Vec<Answer> {
         let calls: Vec<_> = calls.iter().map(|call| call.numbers()).collect();
-        let mut answers = vec![[0; 6]; calls.len()];
+        let mut answers = vec![ffi::Answer::default(); calls.len()];
         let number = safe::list(self.plan.cells(), &mut self.cells, &calls, &mut answers);
         assert_eq!(number, 0, "every call has a kind and a place for its answer");
         answers.into_iter().map(Answer::numbered).collect()
@@ -195,7 +195,7 @@ impl fmt::Debug for Cascade {
 /// for step in hub.steps_before(50_000) {
 ///     turns.push(step?.to_string());
 /// }
-/// assert_eq!(turns, ["(grant 0 1 1 13000 0)", "(rest 13000 0)"]);
+/// assert_eq!(turns, ["(grant 0 1 1 13000 0 0)", "(rest 13000 0)"]);
 /// # Ok::<(), Box<dyn std::error::Error>>(())
 /// ```
 #[derive(Debug)]
@@ -275,11 +275,11 @@ mod tests {
     }
 
     #[test]
-    fn a_grant_tells_its_five_values() {
+    fn a_grant_tells_its_six_values() {
         let mut hub = hub();
         hub.normal(10, 2, 12_000).unwrap();
-        let (time, node, class, end, moves) = (10, 2, Class::Normal, 13_010, 1);
-        assert_eq!(hub.step(11), Ok(Step::Grant { time, node, class, end, moves }));
+        let (time, node, class, end, moves, wait) = (10, 2, Class::Normal, 13_010, 1, 0);
+        assert_eq!(hub.step(11), Ok(Step::Grant { time, node, class, end, moves, wait }));
         assert_eq!(hub.step(13_010), Ok(Step::Quiet));
         assert_eq!(hub.step(13_011), Ok(Step::Rest { time: 13_010, moves: 1 }));
     }
@@ -314,7 +314,7 @@ mod tests {
             hub.normal(0, 1, 512).unwrap();
             hub.step(1).unwrap()
         });
-        assert_eq!(granted.join().unwrap().to_string(), "(grant 0 1 1 1512 0)");
+        assert_eq!(granted.join().unwrap().to_string(), "(grant 0 1 1 1512 0 0)");
     }
 
     #[test]

@@ -12,6 +12,8 @@ pub mod plan {
     pub const OVERHEAD: usize = 1;
     /// D.
     pub const INTERRUPT: usize = 2;
+    /// N.
+    pub const NODE_COUNT: usize = 3;
     /// The framing, by its number.
     pub const FRAMING: usize = 5;
     /// 1 where the plan is strict, else 0.
@@ -53,7 +55,7 @@ pub mod plan {
     }
 }
 
-/// A cascade's table: figures, then the hubs, then the nodes. The crate itself never looks into it.
+/// A cascade's table: figures, then the hubs, then the nodes, then when their requests were put up. The crate never looks into it.
 pub mod cascade {
     /// The clock and the busy line's end are times.
     pub const CLOCK: usize = 0;
@@ -69,14 +71,30 @@ pub mod cascade {
     pub const HUB_CELLS: usize = 4;
     pub const MASKS: usize = 2;
 
-    /// Where the nodes' cells start: a table of all nodes' requests, then three more, each with one cell a node.
+    /// Where the nodes' cells start: six tables with one cell a node in each. They are the nodes' requests, their reservations in
+    /// force, the latest ones, their high grants, and the low and the high halves of the times at which their requests were put up.
     pub const NODES: usize = 136;
+    pub const NODE_TABLE: usize = 256;
+    pub const REQUESTS: usize = 0;
+    pub const LATEST: usize = 2;
+    pub const PUT_UP: usize = 4;
+    pub const PUT_UP_HIGH: usize = 5;
 
-    /// A time has two cells, of which the second is its high half.
+    /// The clock and the line's end have two cells each, of which the second is the time's high half.
     pub const HIGH_HALF: usize = 1;
 
     /// The time whose cells start here.
     pub fn time(table: &[u32], at: usize) -> u64 {
         u64::from(table[at]) + (u64::from(table[at + HIGH_HALF]) << 32)
+    }
+
+    /// The cell of node k, counted from 1, in one of the nodes' tables.
+    pub const fn node(k: usize, table: usize) -> usize {
+        NODES + table * NODE_TABLE + k - 1
+    }
+
+    /// The time at which the standing request of node k, counted from 1, was first put up.
+    pub fn put_up(table: &[u32], k: usize) -> u64 {
+        u64::from(table[node(k, PUT_UP)]) + (u64::from(table[node(k, PUT_UP_HIGH)]) << 32)
     }
 }

@@ -7,13 +7,16 @@
 
 /// How many 32-bit cells a plan's table has.
 pub const PLAN_CELLS: usize = 1672;
-/// How many 32-bit cells a cascade's table has.
-pub const CASCADE_CELLS: usize = 1160;
+/// How many 32-bit cells a cascade's table has. One that was stored with 1,160, before request 1 of document 02, is copied into
+/// the first of these, with zeros behind it: the waits of requests that stood at that moment are then counted from time 0.
+pub const CASCADE_CELLS: usize = 1672;
 
 /// A plan's table. It may be copied, stored and moved.
 pub type Plan = [u32; PLAN_CELLS];
 /// A cascade's table. It may be copied, stored and moved.
 pub type Cascade = [u32; CASCADE_CELLS];
+/// An answer, a step's and in a list: case, time, node, class, end, moves and wait.
+pub type Answer = [u64; 7];
 
 extern "C" {
     /// Reads the plan at the start of a text. Taken: 0, the plan's table is filled, and `told` is
@@ -37,15 +40,17 @@ extern "C" {
     pub fn lembuya_reserve(plan: *const Plan, cascade: *mut Cascade, t: u64, k: u64, n: u64, b: u64) -> u32;
     /// `(until t)`. Refused: the number, and no cell changes.
     pub fn lembuya_until(plan: *const Plan, cascade: *mut Cascade, t: u64) -> u32;
-    /// A step with bound `t`. `answer` is its case, time, node, class (1 normal, 2 high), end and
-    /// moves, 0 where its case has none. The case, also returned, is 1 for a grant, 2 for a rest and 3
-    /// for quiet. Refused: the number, and `answer` is as it was; quiet and refused change no cell.
-    pub fn lembuya_step(plan: *const Plan, cascade: *mut Cascade, t: u64, answer: *mut [u64; 6]) -> u32;
+    /// A step with bound `t`. `answer` is its case, time, node, class (1 normal, 2 high), end, moves
+    /// and wait, 0 where its case has none. The case, also returned, is 1 for a grant, 2 for a rest and 3
+    /// for quiet. The wait is a grant's time less the time at which its request was first put up, and 0
+    /// in a table of any content where that is the later one. Refused: the number, and `answer` is as it
+    /// was; quiet and refused change no cell.
+    pub fn lembuya_step(plan: *const Plan, cascade: *mut Cascade, t: u64, answer: *mut Answer) -> u32;
     /// Many calls in one. `calls` has five numbers a call: its kind (1 normal, 2 high, 3 off, 4
     /// reserve, 5 until, 6 step), t, k, n and b, of which those that the kind lacks are not looked
-    /// at. `answers` gets six an answer, as a step's; an event's case is 0 or its number. The lengths
+    /// at. `answers` gets seven an answer, as a step's; an event's case is 0 or its number. The lengths
     /// count numbers. 0; or 1 (`calls` ends within a call or has a call of no kind) or 18 (`answers`
-    /// is too short), and then nothing is done.
+    /// is shorter than seven a call), and then nothing is done.
     pub fn lembuya_list(
         plan: *const Plan,
         cascade: *mut Cascade,

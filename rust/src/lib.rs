@@ -18,7 +18,7 @@
 //! - [`log()`], [`log_into`]: the whole log of a text.
 //! - [`ffi`]: the archive's functions as they are.
 //!
-//! The command `lembuya` over this crate (`src/bin/lembuya`) makes logs, limits and pictures of texts.
+//! The command `lembuya` over this crate (`src/bin/lembuya`) makes logs, limits, waits and pictures of texts.
 //!
 //! # Document 01's example
 //!
@@ -42,11 +42,11 @@
 //! // Time passes: the turns that come before 99,000.
 //! let turns: Result<Vec<_>, _> = hub.steps_before(99_000).collect();
 //! let turns: Vec<_> = turns?.iter().map(|turn| turn.to_string()).collect();
-//! assert_eq!(turns, ["(grant 0 1 1 13000 0)", "(grant 13000 4 1 20000 0)", "(rest 20000 0)"]);
+//! assert_eq!(turns, ["(grant 0 1 1 13000 0 0)", "(grant 13000 4 1 20000 0 13000)", "(rest 20000 0)"]);
 //!
 //! hub.normal(99_000, 2, 12_000)?;
 //! for turn in hub.steps_before(100_000) {
-//!     assert_eq!(turn?.to_string(), "(grant 99000 2 1 112000 1)");
+//!     assert_eq!(turn?.to_string(), "(grant 99000 2 1 112000 1 0)");
 //! }
 //! hub.high(100_000, 3, 4_000)?;
 //! hub.normal(100_000, 1, 1_000)?;
@@ -54,7 +54,7 @@
 //! let turns: Vec<_> = turns?.iter().map(|turn| turn.to_string()).collect();
 //! assert_eq!(
 //!     turns,
-//!     ["(grant 112000 3 2 117000 2)", "(grant 117000 1 1 119000 1)", "(rest 119000 0)"],
+//!     ["(grant 112000 3 2 117000 2 12000)", "(grant 117000 1 1 119000 1 17000)", "(rest 119000 0)"],
 //! );
 //! hub.until(200_000)?;
 //! # Ok::<(), Box<dyn std::error::Error>>(())
@@ -67,9 +67,9 @@
 //!     (hub\n(node)\n(hub\n(node)\n(node)\n)\n(node)\n)\n\
 //!     (reserve 0 3 2 4000)\n(normal 0 1 12000)\n(normal 0 4 6000)\n(high 0 3 4000)\n\
 //!     (normal 99000 2 12000)\n(high 100000 3 4000)\n(normal 100000 1 1000)\n(until 200000)\n";
-//! let log = "(nodes 4 hubs 2)\n(refused 16 16)\n(grant 0 1 1 13000 0)\n\
-//!     (grant 13000 4 1 20000 0)\n(rest 20000 0)\n(grant 99000 2 1 112000 1)\n\
-//!     (grant 112000 3 2 117000 2)\n(grant 117000 1 1 119000 1)\n(rest 119000 0)\n";
+//! let log = "(nodes 4 hubs 2)\n(refused 16 16)\n(grant 0 1 1 13000 0 0)\n\
+//!     (grant 13000 4 1 20000 0 13000)\n(rest 20000 0)\n(grant 99000 2 1 112000 1 0)\n\
+//!     (grant 112000 3 2 117000 2 12000)\n(grant 117000 1 1 119000 1 17000)\n(rest 119000 0)\n";
 //! assert_eq!(lembuya::log(text), log.as_bytes());
 //! ```
 
@@ -105,7 +105,7 @@ mod example {
     pub const EVENTS: &str = "(reserve 0 3 2 4000)\n(normal 0 1 12000)\n(normal 0 4 6000)\n\
         (high 0 3 4000)\n(normal 99000 2 12000)\n(high 100000 3 4000)\n\
         (normal 100000 1 1000)\n(until 200000)\n";
-    pub const LOG: &str = "(nodes 4 hubs 2)\n(refused 16 16)\n(grant 0 1 1 13000 0)\n\
-        (grant 13000 4 1 20000 0)\n(rest 20000 0)\n(grant 99000 2 1 112000 1)\n\
-        (grant 112000 3 2 117000 2)\n(grant 117000 1 1 119000 1)\n(rest 119000 0)\n";
+    pub const LOG: &str = "(nodes 4 hubs 2)\n(refused 16 16)\n(grant 0 1 1 13000 0 0)\n\
+        (grant 13000 4 1 20000 0 13000)\n(rest 20000 0)\n(grant 99000 2 1 112000 1 0)\n\
+        (grant 112000 3 2 117000 2 12000)\n(grant 117000 1 1 119000 1 17000)\n(rest 119000 0)\n";
 }

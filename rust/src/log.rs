@@ -19,7 +19,7 @@ pub const LONGEST_LOG: usize = 18 * LONGEST_TEXT;
 /// ```
 /// let text = b"(frame 100000)\n(overhead 1000)\n(interrupt 13000)\n(hub\n(node)\n)\n\
 ///     (normal 0 1 12000)\n(normal 0 2 12000)\n(until 20000)\n";
-/// let log = b"(nodes 1 hubs 1)\n(refused 8 13)\n(grant 0 1 1 13000 0)\n(rest 13000 0)\n";
+/// let log = b"(nodes 1 hubs 1)\n(refused 8 13)\n(grant 0 1 1 13000 0 0)\n(rest 13000 0)\n";
 /// assert_eq!(lembuya::log(text), log);
 /// ```
 pub fn log(text: &[u8]) -> Vec<u8> {

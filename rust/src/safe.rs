@@ -6,7 +6,7 @@
 
 #![allow(unsafe_code)]
 
-use crate::ffi::{self, Cascade, Plan};
+use crate::ffi::{self, Answer, Cascade, Plan};
 
 /// The number, and nodes, hubs, place and line; of a refused plan only the line is told.
 pub fn read(text: &[u8], plan: &mut Plan) -> (u32, [u64; 4]) {
@@ -57,10 +57,10 @@ pub fn until(plan: &Plan, cascade: &mut Cascade, t: u64) -> u32 {
     unsafe { ffi::lembuya_until(plan, cascade, t) }
 }
 
-/// The answer's six numbers; their first is the case, or the number of a refusal, which the archive
+/// The answer's seven numbers; their first is the case, or the number of a refusal, which the archive
 /// only returns.
-pub fn step(plan: &Plan, cascade: &mut Cascade, t: u64) -> [u64; 6] {
-    let mut answer = [0; 6];
+pub fn step(plan: &Plan, cascade: &mut Cascade, t: u64) -> Answer {
+    let mut answer = Answer::default();
     // SAFETY: both tables are whole; `cascade` and `answer` are borrowed mutably.
     let number = unsafe { ffi::lembuya_step(plan, cascade, t, &mut answer) };
     answer[0] = number.into();
@@ -68,7 +68,7 @@ pub fn step(plan: &Plan, cascade: &mut Cascade, t: u64) -> [u64; 6] {
 }
 
 /// The number; the answers' numbers stand in `answers`.
-pub fn list(plan: &Plan, cascade: &mut Cascade, calls: &[[u64; 5]], answers: &mut [[u64; 6]]) -> u32 {
+pub fn list(plan: &Plan, cascade: &mut Cascade, calls: &[[u64; 5]], answers: &mut [Answer]) -> u32 {
     let calls = calls.as_flattened();
     let answers = answers.as_flattened_mut();
     // SAFETY: both tables are whole; `calls` is read and `answers` written for its length; `cascade`

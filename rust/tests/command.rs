@@ -12,8 +12,8 @@ const RING: &str =
     (reserve 0 2 1 36000)\n(normal 0 1 36000)\n(normal 0 2 36001)\n(high 200000 2 36000)\n(until 400000)\n";
 /// By hand: line 11 asks for more than 36,000 bits. Each grant holds the line for 36,000 + 1,000, node 2's in frame 1, from
 /// whose start on its reservation is in force. There is one hub, so control never moves.
-const RING_LOG: &str = "(nodes 2 hubs 1)\n(refused 11 15)\n(grant 0 1 1 37000 0)\n(rest 37000 0)\n\
-    (grant 200000 2 2 237000 0)\n(rest 237000 0)\n";
+const RING_LOG: &str = "(nodes 2 hubs 1)\n(refused 11 15)\n(grant 0 1 1 37000 0 0)\n(rest 37000 0)\n\
+    (grant 200000 2 2 237000 0 0)\n(rest 237000 0)\n";
 
 /// Row 16 where the plan is strict, and where it isn't.
 const STRICT_16: &str =
@@ -25,12 +25,12 @@ const LAPTOP: &str = "(frame 100000)\n(overhead 1000)\n(interrupt 13000)\n(hub\n
     (reserve 0 1 1 4000)\n(high 0 2 12000)\n(high 100000 1 4001)\n(high 100000 2 12000)\n(high 100000 1 4000)\n\
     (until 200000)\n";
 /// By hand: line 10 asks for more than the 4,000 bits in force. Node 2's requests are normal: the first is granted at once, the
-/// second behind node 1's, each for 12,000 + 1,000. There is one hub, so control never moves.
-const LAPTOP_LOG: &str = "(nodes 2 hubs 1)\n(grant 0 2 1 13000 0)\n(rest 13000 0)\n(refused 10 16)\n\
-    (grant 100000 1 2 105000 0)\n(grant 105000 2 1 118000 0)\n(rest 118000 0)\n";
+/// second behind node 1's, 5,000 later, each for 12,000 + 1,000. There is one hub, so control never moves.
+const LAPTOP_LOG: &str = "(nodes 2 hubs 1)\n(grant 0 2 1 13000 0 0)\n(rest 13000 0)\n(refused 10 16)\n\
+    (grant 100000 1 2 105000 0 0)\n(grant 105000 2 1 118000 0 5000)\n(rest 118000 0)\n";
 /// By hand, with `(strict)`, so that each line has a number more: 10 and 12 are refused too, and node 2 has no turn.
 const LAPTOP_STRICT_LOG: &str = "(nodes 2 hubs 1)\n(refused 10 16)\n(refused 11 16)\n(refused 12 16)\n\
-    (grant 100000 1 2 105000 0)\n(rest 105000 0)\n";
+    (grant 100000 1 2 105000 0 0)\n(rest 105000 0)\n";
 
 fn strict(text: &str) -> String {
     text.replacen("(hub\n", "(strict)\n(hub\n", 1)
@@ -74,6 +74,17 @@ fn json_is_one_object_a_line() {
     assert_eq!((status, out.lines().count()), (0, LOG.lines().count()));
     assert_eq!(out.lines().next(), Some("{\"file\":\"-\",\"form\":\"nodes\",\"nodes\":4,\"hubs\":2}"));
     assert!(out.lines().all(|line| line.starts_with("{\"file\":\"-\",\"form\":\"") && line.ends_with('}')));
+}
+
+/// Document 01's log has waits of 0, 13000, 0, 12000 and 17000.
+#[test]
+fn a_grants_object_has_its_wait() {
+    let (_, out, _) = lembuya(&["run", "--json", "-"], &example());
+    let grants = out.lines().filter(|line| line.contains("\"form\":\"grant\""));
+    let waits: Vec<&str> = grants.map(|line| line.split_once("\"moves\":").unwrap().1).collect();
+    let expected =
+        ["0,\"wait\":0}", "0,\"wait\":13000}", "1,\"wait\":0}", "2,\"wait\":12000}", "1,\"wait\":17000}"];
+    assert_eq!(waits, expected);
 }
 
 #[test]
@@ -130,7 +141,7 @@ fn a_framing_line_is_refused_in_words() {
     assert_eq!((status, out.as_str()), (1, "(refused 4 2)\n"));
     let words = "D too small for framing 5, which needs 36,000 + O";
     assert_eq!(err, format!("-:4: refused 2: {words}: (framing 5)\n"));
-    for command in ["limits", "picture"] {
+    for command in ["limits", "waits", "picture"] {
         let told = lembuya(&[command, "-"], &RING.replace("(interrupt 37000)", "(interrupt 36999)"));
         assert_eq!(told, (1, String::new(), err.clone()), "{command}");
     }
@@ -164,8 +175,8 @@ fn limits_and_pictures_say_the_framing() {
         };
         out.lines().filter(is_bar).filter(|line| line.contains(" width=\"92.5\"")).count()
     };
-    assert_eq!(bars("normal", "<title>(grant 0 1 1 37000 0)</title>", "80"), 1);
-    assert_eq!(bars("high", "<title>(grant 200000 2 2 237000 0)</title>", "580"), 1);
+    assert_eq!(bars("normal", "<title>(grant 0 1 1 37000 0 0)</title>", "80"), 1);
+    assert_eq!(bars("high", "<title>(grant 200000 2 2 237000 0 0)</title>", "580"), 1);
 }
 
 #[test]
@@ -234,8 +245,31 @@ fn a_picture_has_each_grant_of_the_log_once() {
     assert_eq!(lembuya(&["picture", EXAMPLE, log], "").1, out);
     let (status, alone, _) = lembuya(&["picture", log], "");
     assert_eq!(status, 0);
-    assert!(alone.contains("<title>(grant 0 1 1 13000 0)</title>") && !alone.contains("frame 0"));
+    assert!(alone.contains("<title>(grant 0 1 1 13000 0 0)</title>") && !alone.contains("frame 0"));
     assert!(out.contains(">frame 0<"));
+}
+
+/// 200,000 bit times on 1,000 units from 94 on: node 3's request of 100,000 is granted at 112,000, node 1's at 117,000.
+#[test]
+fn a_picture_has_each_wait_of_the_log_once() {
+    let (_, out, _) = lembuya(&["picture", EXAMPLE], "");
+    let waits: Vec<&str> = out
+        .lines()
+        .filter(|line| line.starts_with("<path class=\"wait\"") && line.contains("<title>"))
+        .collect();
+    let titles = waits.iter().map(|line| line.split_once("<title>").unwrap().1.split('<').next().unwrap());
+    assert_eq!(
+        titles.collect::<Vec<_>>(),
+        [
+            "node 4 waited 13000 bit times, from 0 on: (grant 13000 4 1 20000 0 13000)",
+            "node 3 waited 12000 bit times, from 100000 on: (grant 112000 3 2 117000 2 12000)",
+            "node 1 waited 17000 bit times, from 100000 on: (grant 117000 1 1 119000 1 17000)",
+        ]
+    );
+    for (wait, from, to) in [(waits[1], "M594 ", "L654 "), (waits[2], "M594 ", "L679 ")] {
+        assert!(wait.contains(from) && wait.contains(to), "{wait}");
+    }
+    assert!(out.contains(">wait, from its request on</text>"));
 }
 
 #[test]
@@ -243,7 +277,7 @@ fn a_picture_of_a_part_shows_that_part() {
     let (status, out, _) =
         lembuya(&["picture", "--from", "0", "--from", "112000", "--to=119,000", EXAMPLE], "");
     assert_eq!(status, 0);
-    assert!(out.contains("(grant 112000 3 2 117000 2)") && !out.contains("(grant 0 1 1 13000 0)"));
+    assert!(out.contains("(grant 112000 3 2 117000 2 12000)") && !out.contains("(grant 0 1 1 13000 0 0)"));
 }
 
 #[test]
@@ -256,6 +290,8 @@ fn bad_usage_is_status_2_and_help_is_0() {
         &["run", "--json=1", EXAMPLE],
         &["run", "/no/such/file"],
         &["run", "-", "-"],
+        &["waits"],
+        &["waits", "--quiet", EXAMPLE],
         &["picture", EXAMPLE, EXAMPLE],
         &["picture", "--from", "x", EXAMPLE],
         &["picture", "--from", "5", "--to", "5", EXAMPLE],
@@ -266,12 +302,64 @@ fn bad_usage_is_status_2_and_help_is_0() {
         assert_eq!((status, out.as_str()), (2, ""), "{words:?}");
         assert!(err.starts_with("lembuya: "), "{words:?}: {err}");
     }
-    for command in ["run", "limits", "picture"] {
+    for command in ["run", "limits", "waits", "picture"] {
         let (status, out, err) = lembuya(&[command, "--help"], "");
         assert_eq!((status, err.as_str()), (0, ""));
         assert!(out.starts_with(&format!("lembuya {command} ")));
     }
     assert_eq!(lembuya(&["--help"], "").0, 0);
+}
+
+#[test]
+fn waits_stand_beside_their_limits() {
+    let (status, out, err) = lembuya(&["waits", EXAMPLE], "");
+    assert_eq!(status, 0);
+    assert_eq!(err, format!("{EXAMPLE}:16: refused 16: {STRICT_16}: (high 0 3 4000)\n"));
+    assert_eq!(out.lines().next(), Some(&*format!("{EXAMPLE}: grants 5; waits in bit times (10 ns)")));
+    let lines: Vec<Vec<&str>> = out.lines().skip(1).map(|line| line.split_whitespace().collect()).collect();
+    // Node 1 waits 0 and 17,000; node 3's limit is D alone, since nobody else has a reservation.
+    let expected = [
+        ["node", "class", "grants", "mean", "greatest", "limit"],
+        ["1", "normal", "2", "8500.0", "17000", "-"],
+        ["2", "normal", "1", "0.0", "0", "-"],
+        ["3", "high", "1", "12000.0", "12000", "13000"],
+        ["4", "normal", "1", "13000.0", "13000", "-"],
+    ];
+    assert_eq!(lines, expected);
+    let (_, out, _) = lembuya(&["waits", "--json", "-"], &example());
+    let object = "{\"file\":\"-\",\"node\":3,\"class\":\"high\",\"grants\":1,\"mean\":12000.0,";
+    assert_eq!(out.lines().nth(2), Some(&*format!("{object}\"greatest\":12000,\"limit\":13000}}")));
+}
+
+/// Two in one call, one of which is refused; and a camera that asks twice in a frame for its one packet.
+#[test]
+fn waits_take_several_texts_and_say_why_there_is_no_limit() {
+    let (status, out, err) = lembuya(&["waits", "-", EXAMPLE], "(frame 1)\n");
+    assert_eq!(status, 1);
+    assert!(out.starts_with(&format!("{EXAMPLE}: grants 5;")), "{out}");
+    assert!(err.starts_with("-:1: refused 2: "), "{err}");
+    let held = LAPTOP.replace("(until 200000)", "(high 105001 1 4000)\n(until 300000)");
+    let (status, out, _) = lembuya(&["waits", "-"], &held);
+    // Granted at once at 100,000; the second is held until 200,000. The limit of the first is D: nobody else has a reservation.
+    let row = "   1 high        2      47499.5      94999        -  \
+        share spent; of 1 with a limit the greatest is 0, limit 13000";
+    assert_eq!((status, out.lines().nth(2)), (0, Some(row)));
+}
+
+/// A log of five numbers a grant is no log any more, and its reader is told why, with its text and without it.
+#[test]
+fn a_log_from_before_is_told_so() {
+    let before: String = LOG
+        .lines()
+        .map(|line| match line.strip_prefix("(grant ") {
+            Some(grant) => format!("(grant {})\n", grant.rsplit_once(' ').unwrap().0),
+            None => format!("{line}\n"),
+        })
+        .collect();
+    let words = "a grant without its wait: the log was written before grants had one, and 'lembuya run' writes it anew";
+    for files in [&["picture", "-"][..], &["picture", EXAMPLE, "-"]] {
+        assert_eq!(lembuya(files, &before), (2, String::new(), format!("lembuya: -:3: {words}\n")));
+    }
 }
 
 #[test]
@@ -281,6 +369,20 @@ fn help_says_what_d_must_be() {
         let flowing = out.split_whitespace().collect::<Vec<_>>().join(" ");
         assert!(flowing.contains("D is at least 12,000 + O, with (framing 5) 36,000 + O"), "{out}");
     }
+}
+
+#[test]
+fn help_says_what_a_wait_is() {
+    let flowing = |command: &str| {
+        let out = lembuya(&[command, "--help"], "").1;
+        out.split_whitespace().collect::<Vec<_>>().join(" ")
+    };
+    assert!(flowing("run").contains("(grant s k class end moves wait)"));
+    assert!(flowing("run").contains("s less the time at which its request was first put up"));
+    assert!(flowing("waits").contains("with one digit behind the point, a half rounded up"));
+    assert!(flowing("waits")
+        .contains("D plus the sum of c = b + O over all other nodes with a reservation in force"));
+    assert!(flowing("picture").contains("A thin line before a bar is its wait"));
 }
 
 #[test]
@@ -303,7 +405,7 @@ fn a_log_with_its_text_must_be_that_texts_log() {
     refused("(nodes 5 hubs 2)\n", "1: the log of EXAMPLE has (nodes 4 hubs 2) here");
     refused(
         &LOG.replace("(grant 13000 4", "(grant 13000 3"),
-        "4: the log of EXAMPLE has (grant 13000 4 1 20000 0) here",
+        "4: the log of EXAMPLE has (grant 13000 4 1 20000 0 13000) here",
     );
     refused(&LOG.replace("(rest 119000 0)\n", ""), "9: the log of EXAMPLE has (rest 119000 0) here");
     refused(&format!("{LOG}(rest 200000 0)\n"), "10: the log of EXAMPLE ends here");
@@ -315,8 +417,9 @@ fn a_log_alone_must_be_a_log() {
     let refused = |log: &str, words: &str| {
         assert_eq!(lembuya(&["picture", "-"], log), (2, String::new(), format!("lembuya: -:{words}\n")));
     };
-    refused("(nodes 4 hubs 2)\n(grant 0 5 1 13000 0)\n", "2: there is no such node");
-    refused("(nodes 4 hubs 2)\n(grand 0 1 1 13000 0)\n", "2: that is no line of a log");
+    refused("(nodes 4 hubs 2)\n(grant 0 5 1 13000 0 0)\n", "2: there is no such node");
+    refused("(nodes 4 hubs 2)\n(grand 0 1 1 13000 0 0)\n", "2: that is no line of a log");
+    refused("(nodes 4 hubs 2)\n(grant 0 1 1 13000 0 1)\n", "2: that is no line of a log");
     refused("(nodes 257 hubs 2)\n", "1: a plan has 1 to 256 nodes");
     refused("(refused 1 2)\n", " a refused plan has no picture");
 }

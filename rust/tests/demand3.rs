@@ -246,8 +246,8 @@ fn pressing_lists(framing: Framing, strict: bool) {
 
 // The tightest lists, written out.
 
-fn grant(time: u64, node: u64, class: Class, end: u64, moves: u64) -> Answer {
-    Answer::Grant { time, node, class, end, moves }
+fn grant(time: u64, node: u64, class: Class, end: u64, moves: u64, wait: u64) -> Answer {
+    Answer::Grant { time, node, class, end, moves, wait }
 }
 
 fn high(t: u64, k: u64, b: u64) -> (Call, Answer) {
@@ -288,23 +288,23 @@ fn no_bit_time_left_in_two_hubs() {
         reserve(0, 3, 3, 3_000),
         reserve(0, 4, 2, 3_000),
         (Call::Normal { t: 100_000, k: 1, b: 12_000 }, Answer::Taken),
-        step(100_001, grant(100_000, 1, Normal, 113_000, 0)),
+        step(100_001, grant(100_000, 1, Normal, 113_000, 0, 0)),
         high(100_000, 1, 3_000),
         high(100_000, 2, 3_000),
         high(100_000, 3, 3_000),
         high(100_000, 4, 3_000),
-        step(200_000, grant(113_000, 1, High, 117_000, 0)),
-        step(200_000, grant(117_000, 2, High, 121_000, 1)),
+        step(200_000, grant(113_000, 1, High, 117_000, 0, 13_000)),
+        step(200_000, grant(117_000, 2, High, 121_000, 1, 17_000)),
         high(117_000, 2, 3_000),
-        step(200_000, grant(121_000, 3, High, 125_000, 0)),
+        step(200_000, grant(121_000, 3, High, 125_000, 0, 21_000)),
         high(121_000, 3, 3_000),
-        step(200_000, grant(125_000, 4, High, 129_000, 1)),
+        step(200_000, grant(125_000, 4, High, 129_000, 1, 25_000)),
         high(125_000, 4, 3_000),
-        step(200_000, grant(129_000, 2, High, 133_000, 1)),
-        step(200_000, grant(133_000, 3, High, 137_000, 0)),
+        step(200_000, grant(129_000, 2, High, 133_000, 1, 12_000)),
+        step(200_000, grant(133_000, 3, High, 137_000, 0, 12_000)),
         high(133_000, 3, 3_000),
-        step(200_000, grant(137_000, 4, High, 141_000, 1)),
-        step(200_000, grant(141_000, 3, High, 145_000, 1)),
+        step(200_000, grant(137_000, 4, High, 141_000, 1, 12_000)),
+        step(200_000, grant(141_000, 3, High, 145_000, 1, 8_000)),
         step(200_000, Answer::Rest { time: 145_000, moves: 1 }),
         step(200_000, Answer::Quiet),
     ];
@@ -329,13 +329,13 @@ fn no_bit_time_left_behind_a_laptop() {
     let by_default = [
         reserve(0, 1, 2, 4_000),
         (laptop, Answer::Taken),
-        step(100_001, grant(100_000, 2, Normal, 113_000, 0)),
+        step(100_001, grant(100_000, 2, Normal, 113_000, 0, 0)),
         high(100_000, 1, 4_000),
         (laptop, Answer::Taken),
-        step(200_000, grant(113_000, 1, High, 118_000, 0)),
+        step(200_000, grant(113_000, 1, High, 118_000, 0, 13_000)),
         high(113_000, 1, 4_000),
-        step(200_000, grant(118_000, 1, High, 123_000, 0)),
-        step(200_000, grant(123_000, 2, Normal, 136_000, 0)),
+        step(200_000, grant(118_000, 1, High, 123_000, 0, 5_000)),
+        step(200_000, grant(123_000, 2, Normal, 136_000, 0, 23_000)),
         step(200_000, Answer::Rest { time: 136_000, moves: 0 }),
         step(200_000, Answer::Quiet),
     ];
@@ -344,10 +344,10 @@ fn no_bit_time_left_behind_a_laptop() {
         reserve(0, 1, 2, 4_000),
         (laptop, Answer::Refused(16)),
         high(100_000, 1, 4_000),
-        step(100_001, grant(100_000, 1, High, 105_000, 0)),
+        step(100_001, grant(100_000, 1, High, 105_000, 0, 0)),
         high(100_000, 1, 4_000),
         (laptop, Answer::Refused(16)),
-        step(200_000, grant(105_000, 1, High, 110_000, 0)),
+        step(200_000, grant(105_000, 1, High, 110_000, 0, 5_000)),
         step(200_000, Answer::Rest { time: 110_000, moves: 0 }),
         step(200_000, Answer::Quiet),
     ];
@@ -364,19 +364,19 @@ fn no_bit_time_left_behind_its_own_packet() {
         reserve(0, 9, 1, 12_000),
         reserve(0, 8, 1, 1_785),
         high(1_986_400, 9, 512),
-        step(1_986_401, grant(1_986_400, 9, High, 1_992_081, 0)),
+        step(1_986_401, grant(1_986_400, 9, High, 1_992_081, 0, 0)),
         high(1_986_400, 9, 12_000),
         step(1_992_082, Answer::Rest { time: 1_992_081, moves: 0 }),
         reserve(1_992_081, 9, 3, 11_574),
-        step(2_185_041, grant(2_185_040, 9, Normal, 2_202_209, 0)),
+        step(2_185_041, grant(2_185_040, 9, Normal, 2_202_209, 0, 0)),
         high(2_185_040, 9, 11_574),
-        step(2_202_210, grant(2_202_209, 9, High, 2_218_952, 0)),
+        step(2_202_210, grant(2_202_209, 9, High, 2_218_952, 0, 17_169)),
         high(2_202_209, 9, 11_574),
-        step(2_218_953, grant(2_218_952, 9, High, 2_235_695, 0)),
+        step(2_218_953, grant(2_218_952, 9, High, 2_235_695, 0, 16_743)),
         high(2_218_952, 8, 1_785),
         high(2_218_952, 9, 11_574),
-        step(2_235_696, grant(2_235_695, 8, High, 2_242_649, 0)),
-        step(2_242_650, grant(2_242_649, 9, High, 2_259_392, 0)),
+        step(2_235_696, grant(2_235_695, 8, High, 2_242_649, 0, 16_743)),
+        step(2_242_650, grant(2_242_649, 9, High, 2_259_392, 0, 23_697)),
         step(2_259_393, Answer::Rest { time: 2_259_392, moves: 0 }),
         step(2_383_680, Answer::Quiet),
     ];

@@ -51,8 +51,9 @@ fn row_16_takes_it_from_there() {
         assert_eq!(made(Call::High { t, k: 1, b: 4_000 })[0], 0, "reserved, cell {cell}");
         let unreserved = if cell == 0 { 0 } else { 16 };
         assert_eq!(made(Call::High { t, k: 2, b: 12_000 })[0], unreserved, "unreserved, cell {cell}");
-        assert_eq!(made(Call::Step { t: 200_000 }), [1, t, 1, 2, 105_000, 0], "cell {cell}");
-        let next = if cell == 0 { [1, 105_000, 2, 1, 118_000, 0] } else { [2, 105_000, 0, 0, 0, 0] };
+        assert_eq!(made(Call::Step { t: 200_000 }), [1, t, 1, 2, 105_000, 0, 0], "cell {cell}");
+        let next =
+            if cell == 0 { [1, 105_000, 2, 1, 118_000, 0, 5_000] } else { [2, 105_000, 0, 0, 0, 0, 0] };
         assert_eq!(made(Call::Step { t: 200_000 }), next, "cell {cell}");
     }
 }

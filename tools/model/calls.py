@@ -54,6 +54,7 @@ class Grant(Answer):
     class_: int
     end: int
     moves: int
+    wait: int
 
 
 @dataclass(frozen=True)

@@ -8,6 +8,7 @@ from .calls import CLASSES, HIGH, NORMAL
 class Request(NamedTuple):
     class_: int
     bits: int
+    since: int  # "the time at which its standing request was first put up"
 
 
 class Share(NamedTuple):
@@ -50,12 +51,16 @@ class Core:
         self.clock = t
 
     def start_frame(self):
-        """"Reservations for it come into force together and high grants of every node count from 0"; then requests become normal."""
+        """"Reservations for it come into force together and high grants of every node count from 0"; then requests become normal.
+
+        The clock stands before the start. "A change of class sets" the recorded time "anew, also the change at a frame's start": to that
+        start itself, however much later the call comes.
+        """
         self.force = self.latest.copy()
         self.high_grants.clear()
-        for k, (class_, bits) in self.requests.items():
-            if class_ == HIGH and not self.force[k].holds(bits):
-                self.requests[k] = Request(NORMAL, bits)
+        for k, request in self.requests.items():
+            if request.class_ == HIGH and not self.force[k].holds(request.bits):
+                self.requests[k] = Request(NORMAL, request.bits, since=self.next_frame())
 
     # Requests that count, and the due instant
 
@@ -90,23 +95,31 @@ class Core:
         as normal"; in a strict plan row 16 has refused it."""
         return CLASSES[event.word] if self.in_force(event.k, event.t).n > 0 else NORMAL
 
+    def put_up(self, event):
+        """"In place of any earlier one of its own". "A replacing request of the same class keeps that time, and a change of class sets it
+        anew"; a class is the one in which a request stands, whatever its event was called."""
+        class_, standing = self.class_put_up(event), self.requests.get(event.k)
+        keeps = standing is not None and standing.class_ == class_
+        self.requests[event.k] = Request(class_, event.b, standing.since if keeps else event.t)
+
     def take(self, event):
         """What an accepted event changes."""
         self.advance(event.t)
         if event.word in CLASSES:
-            self.requests[event.k] = Request(self.class_put_up(event), event.b)  # "in place of any earlier one of its own"
+            self.put_up(event)
         elif event.word == 'off':
             self.requests.pop(event.k, None)
         elif event.word == 'reserve':
             self.latest[event.k] = Share(event.n, event.b)
 
     def grant(self, k):
-        """Takes k's request, with the clock at the grant's time; the packet's end, "s + b + O"."""
+        """Takes k's request, with the clock at the grant's time; the packet's end, "s + b + O", and the wait, "the grant's time less the
+        recorded time"."""
         request = self.requests.pop(k)
         if request.class_ == HIGH:
             self.high_grants[k] += 1
         self.line_end = self.clock + request.bits + self.plan.overhead
-        return self.line_end
+        return self.line_end, self.clock - request.since
 
     def load(self, share):
         """n × c of a reservation, "with c = b + O"."""

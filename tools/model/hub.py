@@ -14,6 +14,11 @@ class Entry(NamedTuple):
     answer: Answer
     returns: int
 
+    @property
+    def wait(self):
+        """Of a grant; 0 of every other answer."""
+        return self.answer.wait if isinstance(self.answer, Grant) else 0
+
 
 class Hub:
     """Each grant's node is found twice, by control hub by hub and by the flat rule; where they differ it stops."""
@@ -51,11 +56,15 @@ class Hub:
         node = self.control.grant(sought, counting)
         if node != self.flat.grant(sought, counting):
             raise RuntimeError(f'the flat rule and control differ at {self.core.clock}')
-        return Grant(self.core.clock, node, sought, self.core.grant(node), self.control.moves)
+        end, wait = self.core.grant(node)
+        return Grant(self.core.clock, node, sought, end, self.control.moves, wait)
 
     def enter(self, call):
         """The entry of a call in a list of calls."""
-        answer = self.perform(call)
+        return self.entry(call, self.perform(call))
+
+    def entry(self, call, answer):
+        """The same of a call that has just been answered."""
         return Entry(call, answer, self.control.returns if isinstance(answer, Grant) else 0)
 
 

@@ -23,10 +23,10 @@ for d in range(1, 5):
 (normal 102000 3 512)
 (until 110000)
 ''', f'''
-(grant 100000 2 1 101512 {d})
-(grant 101512 4 2 103024 {d})
-(grant 103024 3 1 104536 {d})
-(grant 104536 2 1 106048 {2 * d})
+(grant 100000 2 1 101512 {d} 0)
+(grant 101512 4 2 103024 {d} 1412)
+(grant 103024 3 1 104536 {d} 1024)
+(grant 104536 2 1 106048 {2 * d} 2536)
 (rest 106048 {d})
 ''')
     worked('turn-at-holder', d, f'both classes have their marked line to the holder, so no move; by the old rule 2 it took {2 * d}', '''
@@ -36,9 +36,9 @@ for d in range(1, 5):
 (normal 102000 3 512)
 (until 110000)
 ''', f'''
-(grant 100000 2 1 101512 {d})
-(grant 101512 3 2 103024 {2 * d})
-(grant 103024 3 1 104536 0)
+(grant 100000 2 1 101512 {d} 0)
+(grant 101512 3 2 103024 {2 * d} 1412)
+(grant 103024 3 1 104536 0 1024)
 (rest 104536 {d})
 ''')
     worked('resume-after-rest', d, 'a rest loses no turn, so 3 before 2', '''
@@ -48,10 +48,10 @@ for d in range(1, 5):
 (normal 5000 3 512)
 (until 20000)
 ''', f'''
-(grant 0 2 1 1512 {d})
+(grant 0 2 1 1512 {d} 0)
 (rest 1512 {d})
-(grant 5000 3 1 6512 {d})
-(grant 6512 2 1 8024 {2 * d})
+(grant 5000 3 1 6512 {d} 0)
+(grant 6512 2 1 8024 {2 * d} 1512)
 (rest 8024 {d})
 ''')
     worked('afresh-after-hand-up', d, 'handed up and entered again, the line starts afresh, so 2 before 3', '''
@@ -61,10 +61,10 @@ for d in range(1, 5):
 (normal 2000 3 512)
 (until 10000)
 ''', f'''
-(grant 0 2 1 1512 {d})
-(grant 1512 4 1 3024 {d})
-(grant 3024 2 1 4536 {d})
-(grant 4536 3 1 6048 0)
+(grant 0 2 1 1512 {d} 0)
+(grant 1512 4 1 3024 {d} 1412)
+(grant 3024 2 1 4536 {d} 1024)
+(grant 4536 3 1 6048 0 2536)
 (rest 6048 {d})
 ''')
     worked('afresh-over-old-marks', d,
@@ -77,10 +77,10 @@ for d in range(1, 5):
 (normal 103100 3 512)
 (until 120000)
 ''', f'''
-(grant 100000 2 1 101512 {d})
-(grant 101512 4 2 103024 {d})
-(grant 103024 4 1 104536 0)
-(grant 104536 2 1 106048 {d})
-(grant 106048 3 1 107560 0)
+(grant 100000 2 1 101512 {d} 0)
+(grant 101512 4 2 103024 {d} 1412)
+(grant 103024 4 1 104536 0 1024)
+(grant 104536 2 1 106048 {d} 1436)
+(grant 106048 3 1 107560 0 2948)
 (rest 107560 {d})
 ''')

@@ -113,7 +113,7 @@ cases.worked('row-1-makes-no-step', 'a line that is no form makes no step, whate
 '''), '''
 (nodes 4 hubs 2)
 (refused 13 1)
-(grant 0 1 1 1512 0)
+(grant 0 1 1 1512 0 0)
 (rest 1512 0)
 ''')
 

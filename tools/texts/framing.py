@@ -32,12 +32,12 @@ cases.worked('framing-3-written-out', "document 01's log with the framing that i
 '''), '''
 (nodes 4 hubs 2)
 (refused 17 16)
-(grant 0 1 1 13000 0)
-(grant 13000 4 1 20000 0)
+(grant 0 1 1 13000 0 0)
+(grant 13000 4 1 20000 0 13000)
 (rest 20000 0)
-(grant 99000 2 1 112000 1)
-(grant 112000 3 2 117000 2)
-(grant 117000 1 1 119000 1)
+(grant 99000 2 1 112000 1 0)
+(grant 112000 3 2 117000 2 12000)
+(grant 117000 1 1 119000 1 17000)
 (rest 119000 0)
 ''')
 
@@ -72,13 +72,13 @@ cases.worked(
 (refused 16 15)
 (refused 17 15)
 (refused 19 17)
-(grant 0 1 1 37000 0)
-(grant 37000 2 1 50001 1)
+(grant 0 1 1 37000 0 0)
+(grant 37000 2 1 50001 1 37000)
 (rest 50001 1)
 (refused 21 15)
 (refused 23 16)
-(grant 100000 3 2 126000 1)
-(grant 126000 4 2 163000 1)
+(grant 100000 3 2 126000 1 0)
+(grant 126000 4 2 163000 1 26000)
 (rest 163000 0)
 ''')
 
@@ -99,8 +99,8 @@ for framing, longest in ((3, 12000), (5, 36000)):
 (nodes 2 hubs 1)
 (refused 9 15)
 (refused 11 15)
-(grant 0 1 1 512 0)
-(grant 512 2 1 {512 + longest} 0)
+(grant 0 1 1 512 0 0)
+(grant 512 2 1 {512 + longest} 0 512)
 (rest {512 + longest} 0)
 ''')
 
@@ -133,8 +133,8 @@ cases.worked('framing-5-shares', 'framing 5: the largest shares in the longest f
 (refused 10 17)
 (refused 12 14)
 (refused 13 15)
-(grant 4000000 1 2 4036000 0)
-(grant 4036000 2 2 4072000 0)
+(grant 4000000 1 2 4036000 0 0)
+(grant 4036000 2 2 4072000 0 36000)
 (rest 4072000 0)
 ''')
 
@@ -161,12 +161,12 @@ cases.worked(
 '''), '''
 (nodes 4 hubs 2)
 (refused 15 17)
-(grant 199999 4 1 236999 0)
-(grant 236999 1 2 273999 0)
-(grant 273999 2 2 310999 1)
-(grant 310999 3 2 325999 0)
-(grant 325999 1 2 362999 1)
-(grant 362999 2 2 399999 1)
+(grant 199999 4 1 236999 0 0)
+(grant 236999 1 2 273999 0 36999)
+(grant 273999 2 2 310999 1 73999)
+(grant 310999 3 2 325999 0 110999)
+(grant 325999 1 2 362999 1 85999)
+(grant 362999 2 2 399999 1 82999)
 (rest 399999 1)
 ''')
 
@@ -183,9 +183,9 @@ cases.worked(
 (until 400000)
 '''), '''
 (nodes 4 hubs 2)
-(grant 250000 4 1 287000 0)
-(grant 287000 1 2 324000 0)
-(grant 324000 3 2 361000 1)
+(grant 250000 4 1 287000 0 0)
+(grant 287000 1 2 324000 0 36998)
+(grant 324000 3 2 361000 1 73999)
 (rest 361000 1)
 ''')
 
@@ -198,9 +198,9 @@ cases.worked(
 (until 500000)
 '''), '''
 (nodes 4 hubs 2)
-(grant 200000 1 2 237000 0)
+(grant 200000 1 2 237000 0 0)
 (rest 237000 0)
-(grant 400000 1 1 437000 0)
+(grant 400000 1 1 437000 0 0)
 (rest 437000 0)
 ''')
 
@@ -215,7 +215,7 @@ cases.worked(
 '''), '''
 (nodes 2 hubs 1)
 (refused 9 17)
-(grant 99999 2 1 185999 0)
+(grant 99999 2 1 185999 0 0)
 (refused 11 15)
 (rest 185999 0)
 ''')
@@ -226,7 +226,7 @@ cases.worked('framing-5-last-grant', 'the latest end that a grant can have', pre
 (until 1000000000000001)
 '''), '''
 (nodes 4 hubs 2)
-(grant 999999999999999 4 1 1000000000085999 0)
+(grant 999999999999999 4 1 1000000000085999 0 0)
 (refused 15 11)
 ''')
 
@@ -296,7 +296,7 @@ cases.worked('framing-behind-the-plan', 'behind the plan a framing line is an ev
 (nodes 1 hubs 1)
 (refused 8 1)
 (refused 10 1)
-(grant 0 1 1 37000 0)
+(grant 0 1 1 37000 0 0)
 ''')
 
 # the text ends, the LF is missing, and the lines behind have a number more

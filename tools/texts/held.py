@@ -14,13 +14,13 @@ cases.worked('held-frame-after-frame', 'held again in each of three frames', exa
 (until 500000)
 '''), '''
 (nodes 4 hubs 2)
-(grant 100000 3 2 105000 1)
+(grant 100000 3 2 105000 1 0)
 (rest 105000 1)
-(grant 200000 3 2 205000 3)
+(grant 200000 3 2 205000 3 99500)
 (rest 205000 1)
-(grant 300000 3 2 305000 3)
+(grant 300000 3 2 305000 3 99500)
 (rest 305000 1)
-(grant 400000 3 2 405000 3)
+(grant 400000 3 2 405000 3 99500)
 (rest 405000 1)
 ''')
 
@@ -31,9 +31,9 @@ cases.worked('held-then-many-frames', 'the clock goes over several frames with o
 (until 900000)
 '''), '''
 (nodes 4 hubs 2)
-(grant 250000 3 2 255000 1)
+(grant 250000 3 2 255000 1 0)
 (rest 255000 1)
-(grant 300000 3 2 305000 3)
+(grant 300000 3 2 305000 3 49500)
 (rest 305000 1)
 ''')
 
@@ -48,12 +48,12 @@ cases.worked('held-normal-goes-on', 'a held request is not shown upward: normal 
 (until 300000)
 '''), '''
 (nodes 4 hubs 2)
-(grant 100000 3 2 105000 1)
-(grant 105000 1 1 106512 1)
-(grant 106512 2 1 108024 1)
+(grant 100000 3 2 105000 1 0)
+(grant 105000 1 1 106512 1 4500)
+(grant 106512 2 1 108024 1 6012)
 (rest 108024 1)
-(grant 199500 4 1 212500 0)
-(grant 212500 3 2 217500 3)
+(grant 199500 4 1 212500 0 0)
+(grant 212500 3 2 217500 3 112000)
 (rest 217500 1)
 ''')
 
@@ -67,11 +67,11 @@ cases.worked('held-two-nodes', 'two held: at the frame start both count, the poi
 (until 250000)
 '''), '''
 (nodes 4 hubs 2)
-(grant 100000 2 2 102000 1)
-(grant 102000 4 2 104000 1)
+(grant 100000 2 2 102000 1 0)
+(grant 102000 4 2 104000 1 2000)
 (rest 104000 0)
-(grant 200000 2 2 202000 1)
-(grant 202000 4 2 204000 1)
+(grant 200000 2 2 202000 1 99999)
+(grant 202000 4 2 204000 1 99000)
 (rest 204000 0)
 ''')
 
@@ -85,10 +85,10 @@ cases.worked('held-line-ends-at-frame-start', 'a busy line that ends at exactly 
 (until 210000)
 '''), '''
 (nodes 4 hubs 2)
-(grant 100000 3 2 105000 1)
+(grant 100000 3 2 105000 1 0)
 (rest 105000 1)
-(grant 187000 1 1 200000 0)
-(grant 200000 3 2 205000 3)
+(grant 187000 1 1 200000 0 0)
+(grant 200000 3 2 205000 3 99500)
 (rest 205000 1)
 ''')
 
@@ -100,10 +100,10 @@ cases.worked('held-after-n', 'n = 2: the third high of a frame is held, and the 
 (until 300000)
 '''), '''
 (nodes 4 hubs 2)
-(grant 100000 1 2 101512 0)
-(grant 101512 1 2 103024 0)
+(grant 100000 1 2 101512 0 0)
+(grant 101512 1 2 103024 0 1511)
 (rest 103024 0)
-(grant 200000 1 2 201512 0)
+(grant 200000 1 2 201512 0 98000)
 (rest 201512 0)
 ''')
 
@@ -115,8 +115,8 @@ cases.worked(
 (until 300000)
 '''), '''
 (nodes 4 hubs 2)
-(grant 199999 1 2 201511 0)
-(grant 201511 1 2 203023 0)
+(grant 199999 1 2 201511 0 0)
+(grant 201511 1 2 203023 0 1511)
 (rest 203023 0)
 ''')
 
@@ -134,11 +134,11 @@ cases.worked('turned-normal-given-up', 'the reservation given up: a held request
 (until 300000)
 '''), '''
 (nodes 4 hubs 2)
-(grant 100000 1 2 105000 0)
-(grant 105000 4 2 110000 0)
+(grant 100000 1 2 105000 0 0)
+(grant 105000 4 2 110000 0 5000)
 (rest 110000 0)
-(grant 200000 4 2 205000 0)
-(grant 205000 1 1 210000 0)
+(grant 200000 4 2 205000 0 1)
+(grant 205000 1 1 210000 0 5000)
 (rest 210000 0)
 ''')
 
@@ -154,11 +154,11 @@ cases.worked('turned-normal-smaller', 'the reservation made smaller: 4,000 above
 (until 300000)
 '''), '''
 (nodes 4 hubs 2)
-(grant 100000 1 2 105000 0)
-(grant 105000 2 2 110000 1)
+(grant 100000 1 2 105000 0 0)
+(grant 105000 2 2 110000 1 5000)
 (rest 110000 1)
-(grant 200000 2 2 204999 3)
-(grant 204999 1 1 209999 1)
+(grant 200000 2 2 204999 3 94000)
+(grant 204999 1 1 209999 1 4999)
 (rest 209999 0)
 ''')
 
@@ -171,7 +171,7 @@ cases.worked(
 (until 300000)
 '''), '''
 (nodes 4 hubs 2)
-(grant 195000 1 1 208000 0)
-(grant 208000 3 1 213000 1)
+(grant 195000 1 1 208000 0 0)
+(grant 208000 3 1 213000 1 8000)
 (rest 213000 1)
 ''')

@@ -50,10 +50,10 @@ cases.worked('largest-plan-ends', 'nodes 1, 2 and 256 of the largest plan, and 2
 '''), '''
 (nodes 256 hubs 32)
 (refused 325 13)
-(grant 0 1 1 50512 0)
-(grant 50512 256 1 101024 0)
-(grant 101024 1 1 151536 0)
-(grant 151536 2 1 202048 0)
+(grant 0 1 1 50512 0 0)
+(grant 50512 256 1 101024 0 50512)
+(grant 101024 1 1 151536 0 41024)
+(grant 151536 2 1 202048 0 91536)
 (rest 202048 0)
 ''')
 

@@ -29,10 +29,10 @@ def arms_log(first, then, up, marked, fresh):
     x, y, z = arms_nodes(up, marked, fresh)
     return [
         '(nodes 10 hubs 9)',
-        f'(grant 100000 {x} {first} 101512 {marked})',
-        f'(grant 101512 {y} {then} 103024 {marked + up})',
-        f'(grant 103024 {z} {first} 104536 {up + marked + marked + fresh})',
-        f'(grant 104536 {x} {first} 106048 {fresh + marked})',
+        f'(grant 100000 {x} {first} 101512 {marked} 0)',
+        f'(grant 101512 {y} {then} 103024 {marked + up} 1511)',
+        f'(grant 103024 {z} {first} 104536 {up + marked + marked + fresh} 1424)',
+        f'(grant 104536 {x} {first} 106048 {fresh + marked} 2936)',
         f'(rest 106048 {marked})']
 
 
@@ -67,8 +67,8 @@ for deep in range(1, 5):
         cases.worked(f'turn-at-{turn}-from-{deep}', f'a change to normal turns at depth {turn}, from depth {deep}', ARMS + [
             f'(reserve 0 {deep + 1} 1 512)', f'(normal 100000 {turn + 1} 512)', f'(high 100001 {deep + 1} 512)',
             f'(normal 101600 {deep + 1} 512)', '(until 120000)',
-        ], ['(nodes 10 hubs 9)', f'(grant 100000 {turn + 1} 1 101512 {turn})', f'(grant 101512 {deep + 1} 2 103024 {turn + deep})',
-            f'(grant 103024 {deep + 1} 1 104536 {2 * (deep - turn)})', f'(rest 104536 {deep})'])
+        ], ['(nodes 10 hubs 9)', f'(grant 100000 {turn + 1} 1 101512 {turn} 0)', f'(grant 101512 {deep + 1} 2 103024 {turn + deep} 1511)',
+            f'(grant 103024 {deep + 1} 1 104536 {2 * (deep - turn)} 1424)', f'(rest 104536 {deep})'])
 
 every = []
 for i, depths in enumerate(itertools.product(range(5), repeat=3)):

@@ -10,8 +10,8 @@ cases.worked('T-least', 'T = 100,000, O = 0, D = 12,000, both lengths at their m
 (until 200000)
 '''), '''
 (nodes 2 hubs 1)
-(grant 99999 2 1 111999 0)
-(grant 111999 1 2 123999 0)
+(grant 99999 2 1 111999 0 0)
+(grant 111999 1 2 123999 0 11999)
 (rest 123999 0)
 ''')
 
@@ -25,9 +25,9 @@ cases.worked('T-O-D-most', 'T = 4,000,000, O = 50,000, D = T', strict(two(400000
 ''')), '''
 (nodes 2 hubs 1)
 (refused 9 17)
-(grant 3999999 2 1 4061999 0)
+(grant 3999999 2 1 4061999 0 0)
 (refused 12 16)
-(grant 4061999 1 1 4112511 0)
+(grant 4061999 1 1 4112511 0 61999)
 (rest 4112511 0)
 ''')
 
@@ -42,7 +42,7 @@ cases.worked(
 '''), '''
 (nodes 2 hubs 1)
 (refused 8 17)
-(grant 99999 1 1 161999 0)
+(grant 99999 1 1 161999 0 0)
 (rest 161999 0)
 ''')
 
@@ -65,9 +65,9 @@ cases.worked('last-grant', 'a grant at 10^15 - 1: its end lies behind every time
 (off 1000000000000001 2)
 '''), '''
 (nodes 4 hubs 2)
-(grant 0 1 1 1512 0)
+(grant 0 1 1 1512 0 0)
 (rest 1512 0)
-(grant 999999999999999 1 1 1000000000012999 0)
+(grant 999999999999999 1 1 1000000000012999 0 0)
 (refused 16 11)
 ''')
 
@@ -82,7 +82,7 @@ cases.worked('last-frame', 'a request held to the frame start at 10^15, which no
 (high 1000000000000000 3 4001)
 '''), '''
 (nodes 4 hubs 2)
-(grant 999999999900000 3 2 999999999905000 1)
+(grant 999999999900000 3 2 999999999905000 1 0)
 (rest 999999999905000 1)
 (refused 18 11)
 (refused 19 16)
@@ -91,8 +91,8 @@ cases.worked('last-frame', 'a request held to the frame start at 10^15, which no
 cases.worked('port-32', 'the only node at port 32: the pointer goes one past it, and round', plan(
     100000, 1000, 13000, '(hub', *['(empty)'] * 31, '(node)', ')', '(normal 0 1 512)', '(normal 100 1 512)', '(until 5000)'), '''
 (nodes 1 hubs 1)
-(grant 0 1 1 1512 0)
-(grant 1512 1 1 3024 0)
+(grant 0 1 1 1512 0 0)
+(grant 1512 1 1 3024 0 1412)
 (rest 3024 0)
 ''')
 
@@ -100,8 +100,8 @@ cases.worked('port-32-five-levels', 'port 32 of five hubs, one below the other',
     100000, 1000, 13000, *['(hub', *['(empty)'] * 31] * 5, '(node)', *[')'] * 5,
     '(normal 0 1 512)', '(normal 100 1 512)', '(until 5000)'), '''
 (nodes 1 hubs 5)
-(grant 0 1 1 1512 4)
-(grant 1512 1 1 3024 8)
+(grant 0 1 1 1512 4 0)
+(grant 1512 1 1 3024 8 1412)
 (rest 3024 4)
 ''')
 

@@ -13,7 +13,7 @@ cases.worked('off-standing', 'off of a standing request, at the very instant it 
 (until 5000)
 '''), '''
 (nodes 4 hubs 2)
-(grant 1000 1 1 2512 0)
+(grant 1000 1 1 2512 0 0)
 (rest 2512 0)
 ''')
 
@@ -25,8 +25,8 @@ cases.worked('off-waiting', 'off of a request that waits for a busy line: the tu
 (until 5000)
 '''), '''
 (nodes 4 hubs 2)
-(grant 0 1 1 1512 0)
-(grant 1512 4 1 3024 0)
+(grant 0 1 1 1512 0 0)
+(grant 1512 4 1 3024 0 1512)
 (rest 3024 0)
 ''')
 
@@ -38,7 +38,7 @@ cases.worked('off-held', 'off of a held request: nothing is due any more', examp
 (until 300000)
 '''), '''
 (nodes 4 hubs 2)
-(grant 100000 3 2 105000 1)
+(grant 100000 3 2 105000 1 0)
 (rest 105000 1)
 ''')
 
@@ -50,7 +50,7 @@ cases.worked('off-held-at-frame-start', 'off at exactly the frame start for whic
 (until 300000)
 '''), '''
 (nodes 4 hubs 2)
-(grant 100000 3 2 105000 1)
+(grant 100000 3 2 105000 1 0)
 (rest 105000 1)
 ''')
 
@@ -62,7 +62,7 @@ cases.worked('off-none', 'off without a request, before any and while its own pa
 (until 2000)
 '''), '''
 (nodes 4 hubs 2)
-(grant 0 1 1 1512 0)
+(grant 0 1 1 1512 0 0)
 (rest 1512 0)
 ''')
 
@@ -77,9 +77,9 @@ cases.worked('replaced-class', 'a normal request replaced by a high one, and a h
 (until 120000)
 '''), '''
 (nodes 4 hubs 2)
-(grant 100000 4 2 105000 0)
-(grant 105000 1 1 106600 0)
-(grant 106600 4 1 108300 0)
+(grant 100000 4 2 105000 0 0)
+(grant 105000 1 1 106600 0 5000)
+(grant 106600 4 1 108300 0 6599)
 (rest 108300 0)
 ''')
 
@@ -93,11 +93,11 @@ cases.worked('replaced-held', 'normal in place of a held high: it counts at once
 (until 300000)
 '''), '''
 (nodes 4 hubs 2)
-(grant 100000 3 2 105000 1)
+(grant 100000 3 2 105000 1 0)
 (rest 105000 1)
-(grant 106000 3 1 111000 1)
+(grant 106000 3 1 111000 1 0)
 (rest 111000 1)
-(grant 200000 3 2 205000 3)
+(grant 200000 3 2 205000 3 50000)
 (rest 205000 1)
 ''')
 
@@ -108,8 +108,8 @@ cases.worked('replaced-length', 'the last of three requests of one node stands, 
 (until 20000)
 '''), '''
 (nodes 4 hubs 2)
-(grant 0 1 1 13000 0)
-(grant 13000 1 1 14700 0)
+(grant 0 1 1 13000 0 0)
+(grant 13000 1 1 14700 0 12999)
 (rest 14700 0)
 ''')
 
@@ -122,5 +122,5 @@ cases.worked('not-replaced', 'a refused request does not replace the standing on
 (nodes 4 hubs 2)
 (refused 14 15)
 (refused 15 16)
-(grant 0 1 1 1600 0)
+(grant 0 1 1 1600 0 0)
 ''')

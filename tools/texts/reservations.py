@@ -22,7 +22,7 @@ cases.worked('row-16', 'no reservation; one made in this frame; b above the b in
 (refused 16 16)
 (refused 17 16)
 (refused 18 16)
-(grant 100000 2 2 105000 1)
+(grant 100000 2 2 105000 1 0)
 (rest 105000 1)
 ''')
 
@@ -40,10 +40,10 @@ cases.worked('row-16-at-t', 'in force at t, where t lies in a later frame than t
 ''')), '''
 (nodes 4 hubs 2)
 (refused 14 16)
-(grant 100000 2 2 105000 1)
+(grant 100000 2 2 105000 1 0)
 (rest 105000 1)
 (refused 20 16)
-(grant 200000 2 1 205000 1)
+(grant 200000 2 1 205000 1 0)
 ''')
 
 cases.worked('row-16-larger-later', 'a larger b is in force from the next frame on', example('''
@@ -56,7 +56,7 @@ cases.worked('row-16-larger-later', 'a larger b is in force from the next frame 
 '''), '''
 (nodes 4 hubs 2)
 (refused 15 16)
-(grant 200000 1 2 205000 0)
+(grant 200000 1 2 205000 0 0)
 ''')
 
 cases.worked('row-16-leaves-the-request', 'a refused high leaves the standing normal request as it is', example('''
@@ -67,7 +67,7 @@ cases.worked('row-16-leaves-the-request', 'a refused high leaves the standing no
 '''), '''
 (nodes 4 hubs 2)
 (refused 14 16)
-(grant 100000 1 1 113000 0)
+(grant 100000 1 1 113000 0 0)
 ''')
 
 cases.worked('reserve-at-a-frame-start', 'a reserve at exactly a frame start is for the frame behind it', strict(example('''
@@ -81,10 +81,10 @@ cases.worked('reserve-at-a-frame-start', 'a reserve at exactly a frame start is 
 ''')), '''
 (nodes 4 hubs 2)
 (refused 15 16)
-(grant 100000 2 2 101512 1)
+(grant 100000 2 2 101512 1 0)
 (rest 101512 1)
 (refused 17 16)
-(grant 200000 1 2 201512 0)
+(grant 200000 1 2 201512 0 0)
 ''')
 
 cases.worked(
@@ -99,9 +99,9 @@ cases.worked(
 '''), '''
 (nodes 4 hubs 2)
 (refused 14 16)
-(grant 100000 1 2 101512 0)
+(grant 100000 1 2 101512 0 0)
 (rest 101512 0)
-(grant 200000 1 2 205000 0)
+(grant 200000 1 2 205000 0 0)
 (rest 205000 0)
 ''')
 
@@ -119,10 +119,10 @@ cases.worked(
     'a refused event of the next frame does not start it: the held request is kept high by a reserve of this frame',
     strict(NEXT_FRAME_HIGH), '''
 (nodes 4 hubs 2)
-(grant 100000 3 2 105000 1)
+(grant 100000 3 2 105000 1 0)
 (rest 105000 1)
 (refused 17 16)
-(grant 200000 3 2 205000 3)
+(grant 200000 3 2 205000 3 99500)
 (rest 205000 1)
 ''')
 
@@ -137,7 +137,7 @@ cases.worked('latest-accepted-counts', 'of several reserves in a frame the lates
 (nodes 4 hubs 2)
 (refused 14 15)
 (refused 15 17)
-(grant 100000 1 2 105000 0)
+(grant 100000 1 2 105000 0 0)
 ''')
 
 # row 17
@@ -208,13 +208,13 @@ cases.worked(
 (until 300000)
 ''')), '''
 (nodes 4 hubs 2)
-(grant 100000 1 2 103000 0)
+(grant 100000 1 2 103000 0 0)
 (refused 17 16)
-(grant 103000 1 2 106000 0)
+(grant 103000 1 2 106000 0 2998)
 (rest 106000 0)
 (refused 22 16)
-(grant 200000 2 2 203000 1)
-(grant 203000 1 1 206000 1)
+(grant 200000 2 2 203000 1 0)
+(grant 203000 1 1 206000 1 3000)
 (rest 206000 0)
 ''')
 
@@ -227,7 +227,7 @@ cases.worked(
 '''), '''
 (nodes 1 hubs 1)
 (refused 7 17)
-(grant 0 1 1 512 0)
+(grant 0 1 1 512 0 0)
 (rest 512 0)
 ''')
 

@@ -14,11 +14,11 @@ cases.worked('m1', 'pointer 3 (a grant to 2 put it there), normal from 2, 3, 5, 
 (until 10000)
 '''), '''
 (nodes 9 hubs 1)
-(grant 0 2 1 1512 0)
-(grant 1512 3 1 3024 0)
-(grant 3024 5 1 4536 0)
-(grant 4536 9 1 6048 0)
-(grant 6048 2 1 7560 0)
+(grant 0 2 1 1512 0 0)
+(grant 1512 3 1 3024 0 1412)
+(grant 3024 5 1 4536 0 2924)
+(grant 4536 9 1 6048 0 4436)
+(grant 6048 2 1 7560 0 5948)
 (rest 7560 0)
 ''')
 
@@ -29,9 +29,9 @@ cases.worked('m2', 'pointer 9 (a grant to 8 put it there), only node 1 stands: 1
 (until 10000)
 '''), '''
 (nodes 9 hubs 1)
-(grant 0 8 1 1512 0)
+(grant 0 8 1 1512 0 0)
 (rest 1512 0)
-(grant 5000 1 1 6512 0)
+(grant 5000 1 1 6512 0 0)
 (rest 6512 0)
 ''')
 
@@ -41,8 +41,8 @@ cases.worked('m3', 'after a normal grant to 2, normal from 2 while that packet r
 (until 10000)
 '''), '''
 (nodes 4 hubs 2)
-(grant 0 2 1 1512 1)
-(grant 1512 2 1 3024 2)
+(grant 0 2 1 1512 1 0)
+(grant 1512 2 1 3024 2 1412)
 (rest 3024 1)
 ''')
 
@@ -56,10 +56,10 @@ cases.worked(
 (until 110000)
 '''), '''
 (nodes 4 hubs 2)
-(grant 100000 2 1 101512 1)
-(grant 101512 4 2 103024 1)
-(grant 103024 3 1 104536 1)
-(grant 104536 2 1 106048 2)
+(grant 100000 2 1 101512 1 0)
+(grant 101512 4 2 103024 1 1412)
+(grant 103024 3 1 104536 1 1024)
+(grant 104536 2 1 106048 2 2536)
 (rest 106048 1)
 ''')
 
@@ -113,8 +113,8 @@ cases.worked('m7', '512 and 12,000 pass row 15, 511 and 12,001 do not, in all th
 (refused 22 16)
 (refused 23 16)
 (refused 24 15)
-(grant 0 1 1 1512 0)
-(grant 1512 2 1 14512 1)
+(grant 0 1 1 1512 0 0)
+(grant 1512 2 1 14512 1 1512)
 (rest 14512 1)
 ''')
 
@@ -126,9 +126,9 @@ cases.worked('m8', 'high at 100,000 granted, 1 move; again at 100,500: rest at 1
 (until 200001)
 '''), '''
 (nodes 4 hubs 2)
-(grant 100000 3 2 105000 1)
+(grant 100000 3 2 105000 1 0)
 (rest 105000 1)
-(grant 200000 3 2 205000 3)
+(grant 200000 3 2 205000 3 99500)
 ''')
 
 cases.worked('m9', 'a step with its bound equal to the due instant is quiet: at 0, and at the end of the busy line', example('''
@@ -141,7 +141,7 @@ cases.worked('m9', 'a step with its bound equal to the due instant is quiet: at 
 '''), '''
 (nodes 4 hubs 2)
 (refused 14 13)
-(grant 0 1 1 1512 0)
+(grant 0 1 1 1512 0 0)
 (refused 16 13)
 (rest 1512 0)
 (refused 17 13)

@@ -25,6 +25,7 @@ use Rattle.cells.specs.Layout.{putTime}
 use Rattle.cells.specs.Decode.{planIn, coreOf, controlOf}
 use Rattle.cells.specs.Fresh.{pointed, freshCells}
 use Rattle.cells.specs.Masks.{mend, mendBit, mendClass, putRequest, grantNode}
+use Rattle.cells.specs.Waits.{putSince, turnCells, turnNodes, turnAll, recordSince}
 use Rattle.cells.specs.Build.{clearMasks, showPort, showRequest, showNodes, showHub, showHubs, buildMasks}
 use Rattle.cells.specs.Frames.{startCells, startNodes, startFrame, advanceBy}
 use Rattle.cells.specs.Instants.{soughtBy, restingDue, dueBy}
@@ -67,7 +68,7 @@ unfolding
     before lines digitRun keepDigit wellFormed valueFrom readRun readNumber startsWith isWord andThen readSpaced readClose readNumbers readBehind readForm
     kindOf reading frameLine overheadLine interruptLine framingLine strictLine rootLine hubLines putRoot putNode putEmpty putHub putPorts putFigures planOf
     any sum first advance shows maskUpTo withPort putPort atOrAfter anyUpTo firstOf lowestFrom
-    putTime coreOf controlOf pointed freshCells mend mendBit mendClass putRequest grantNode clearMasks showPort showRequest showNodes showHub showHubs buildMasks startCells startNodes startFrame advanceBy soughtBy restingDue dueBy
+    putTime coreOf controlOf pointed freshCells putSince turnCells turnNodes turnAll recordSince mend mendBit mendClass putRequest grantNode clearMasks showPort showRequest showNodes showHub showHubs buildMasks startCells startNodes startFrame advanceBy soughtBy restingDue dueBy
     downBy takeBy upBy handUpBy foundBy lookBy afterLook walkBy nearerBy nearestBy walked settled chooseBy
     rowsBy rowBy changeBy eventBy busyUntil resting grantBy restBy handledBy stepDue stepBy stepAnswer eventLeft performBy
     projected ran bellReply bellNext

@@ -2,5 +2,7 @@
 pub mod Numbers
 pub mod Tables
 pub mod Listing
+pub mod Waiting
+pub mod Promising
 pub mod Loops
 pub mod Making

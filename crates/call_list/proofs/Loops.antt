@@ -8,7 +8,7 @@ use lib.ListN.{getD}
 use Rattle.rules.specs.Choice.{if_then_else_}
 use Rattle.rules.proofs.Laws.Passes.{Which, which, yes′, no′, true-false}
 use Rattle.cells.specs.Calls.{performBy}
-use Rattle.call_list.specs.Table.{callAt, isKind, kindsFrom, sixOf, putSix, listFrom}
+use Rattle.call_list.specs.Table.{callAt, isKind, kindsFrom, toldOf, putSeven, listFrom}
 
 one-less : (n i : ℕ) → i < n → n - i ≡ suc (n - (i + 1))
 one-less n i l = omega arith
@@ -36,7 +36,7 @@ module _ (cs : List ℕ) (n i : ℕ) where
 
   pub list-here : (P s ans : List ℕ) → i < n
       → listFrom P cs i (n - i) s ans
-      ≡ listFrom P cs (i + 1) (n - (i + 1)) (performBy P (callAt cs i) s .cells) (putSix i (sixOf (performBy P (callAt cs i) s .answer)) ans)
+      ≡ listFrom P cs (i + 1) (n - (i + 1)) (performBy P (callAt cs i) s .cells) (putSeven i (toldOf (performBy P (callAt cs i) s)) ans)
   unfolding listFrom
   list-here P s ans l = ap (λ (m : ℕ). listFrom P cs i m s ans) (one-less n i l)
 

@@ -13,8 +13,8 @@ use Rattle.event.specs.Call.{callOf}
 use Rattle.event.specs.declared.Event.{Event}
 use Rattle.event.specs.declared.Event.the-variants.{Normal, High, Off, Reserve, Until}
 use Rattle.cells.specs.Calls.{EventPromise, rowBy, Performed, eventLeft, performBy}
-use Rattle.call_list.specs.Table.{callAt, isKind, sixOf}
-use Rattle.call_list.proofs.Numbers.{six, event-six}
+use Rattle.call_list.specs.Table.{callAt, isKind, toldOf}
+use Rattle.call_list.proofs.Numbers.{seven, event-seven}
 
 -- a kind that is no step's is an event's
 pub event-kind : (kind : ℕ) → isKind kind ≡ true → (kind ≡ 6 → ⊥) → (1 ≤ kind) × (kind ≤ 5)
@@ -38,10 +38,10 @@ module _ (P cs s : List ℕ) (i : ℕ) where
 
   -- an event's number and cells are what `performBy` says
   pub event-made : (e : Event) → callOf e ≡ callAt cs i → (r : ℕ) (z : List ℕ) → EventPromise P (callOf e) s r z
-      → (sixOf (performBy P (callAt cs i) s .answer) ≡ six r 0 0 0 0 0) × (z ≡ performBy P (callAt cs i) s .cells)
+      → (toldOf (performBy P (callAt cs i) s) ≡ seven r 0 0 0 0 0 0) × (z ≡ performBy P (callAt cs i) s .cells)
   unfolding eventLeft
   event-made e c r z q =
       let same = ap (λ (x : Call). performBy P x s) (sym c) ∙ performs P e s in (
-        ap (λ (x : Performed). sixOf (x .answer)) same ∙ event-six (rowBy P (callOf e) s) ∙ ap (λ (n : ℕ). six n 0 0 0 0 0) (sym (q .0)),
+        ap toldOf same ∙ event-seven (rowBy P (callOf e) s) ∙ ap (λ (n : ℕ). seven n 0 0 0 0 0 0) (sym (q .0)),
         q .1 ∙ sym (ap (λ (x : Performed). x .cells) same),
       )

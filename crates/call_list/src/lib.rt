@@ -10,17 +10,18 @@ ghost use lib.ListN.{length, getD};
 ghost use Rattle.rules.specs.Call.{step};
 ghost use Rattle.event.specs.Call.{callOf};
 ghost use Rattle.cells.specs.Calls.{performBy};
-ghost use Rattle.call_list.specs.Table.{numbered, callAt, countOf, isKind, kindsFrom, listNumber, sixOf, putSix};
+ghost use Rattle.call_list.specs.Table.{numbered, callAt, countOf, isKind, kindsFrom, listNumber, toldOf, putSeven};
 ghost use Rattle.call_list.specs.Promise.{ListPromise};
 
 // An answer as it stands in a table.
-struct Six {
+struct Seven {
     number: u64,
     time: u64,
     node: u64,
     class: u64,
     end: u64,
     moves: u64,
+    wait: u64,
 }
 
 // Whether each call is of some kind.
@@ -52,37 +53,39 @@ fn number(calls: &[u64], answers: &[u64]) -> u32
     if !kinds(calls) {
         return 1;
     }
-    if answers.len() < calls.len() / 5 * 6 {
+    if answers.len() < calls.len() / 5 * 7 {
         return 18;
     }
     0
 }
 
 // Answer i of a table.
-fn put_six(answers: &mut [u64], i: usize, x: Six)
-    requires { ⌜ i * 6 + 6 ≤ length (now answers) ⌝ }
-    ensures { λ _. ⌜ now (answers .exit) ≡ putSix i (record { number = x .number; time = x .time; node = x .node; class = x .class; end = x .end; moves = x .moves }) (now (answers .entry)) ⌝ }
+fn put_seven(answers: &mut [u64], i: usize, x: Seven)
+    requires { ⌜ i * 7 + 7 ≤ length (now answers) ⌝ }
+    ensures { λ _. ⌜ now (answers .exit) ≡ putSeven i (record { number = x .number; time = x .time; node = x .node; class = x .class; end = x .end; moves = x .moves; wait = x .wait }) (now (answers .entry)) ⌝ }
 {
-    let at = i * 6;
+    let at = i * 7;
     answers[at] = x.number;
     answers[at + 1] = x.time;
     answers[at + 2] = x.node;
     answers[at + 3] = x.class;
     answers[at + 4] = x.end;
     answers[at + 5] = x.moves;
+    answers[at + 6] = x.wait;
 }
 
 // An answer that has only a number.
-fn of_number(n: u32) -> Six
-    ensures { λ r. ⌜ r ≡ record { number = n; time = 0; node = 0; class = 0; end = 0; moves = 0 } ⌝ }
+fn of_number(n: u32) -> Seven
+    ensures { λ r. ⌜ r ≡ record { number = n; time = 0; node = 0; class = 0; end = 0; moves = 0; wait = 0 } ⌝ }
 {
-    Six {
+    Seven {
         number: n as u64,
         time: 0,
         node: 0,
         class: 0,
         end: 0,
         moves: 0,
+        wait: 0,
     }
 }
 
@@ -107,8 +110,8 @@ fn decoded(kind: u64, t: u64, k: u64, n: u64, b: u64) -> Event
 }
 
 // A step, and its answer's numbers.
-fn step(p: &Plan, s: &mut Cascade, t: u64) -> Six
-    ensures { λ r. ⌜ sixOf (performBy (now (p .entry)) (step t) (now (s .entry)) .answer) ≡ record { number = r .number; time = r .time; node = r .node; class = r .class; end = r .end; moves = r .moves } ⌝ }
+fn step(p: &Plan, s: &mut Cascade, t: u64) -> Seven
+    ensures { λ r. ⌜ toldOf (performBy (now (p .entry)) (step t) (now (s .entry))) ≡ record { number = r .number; time = r .time; node = r .node; class = r .class; end = r .end; moves = r .moves; wait = r .wait } ⌝ }
     ensures { λ r. ⌜ now (s .exit) ≡ performBy (now (p .entry)) (step t) (now (s .entry)) .cells ⌝ }
 {
     match hub::step(p, s, t) {
@@ -118,21 +121,24 @@ fn step(p: &Plan, s: &mut Cascade, t: u64) -> Six
             class,
             end,
             moves,
-        } => Six {
+            wait,
+        } => Seven {
             number: 1,
             time,
             node: node as u64,
             class: class as u64,
             end,
             moves,
+            wait,
         },
-        Step::Rest { time, moves } => Six {
+        Step::Rest { time, moves } => Seven {
             number: 2,
             time,
             node: 0,
             class: 0,
             end: 0,
             moves,
+            wait: 0,
         },
         Step::Quiet => of_number(3),
         Step::Refused(n) => of_number(n),
@@ -140,9 +146,9 @@ fn step(p: &Plan, s: &mut Cascade, t: u64) -> Six
 }
 
 // Call i, and its answer's numbers.
-fn make(p: &Plan, s: &mut Cascade, calls: &[u64], i: usize) -> Six
+fn make(p: &Plan, s: &mut Cascade, calls: &[u64], i: usize) -> Seven
     requires { ⌜ (i * 5 + 5 ≤ length (now calls)) × (isKind (getD (now calls) (i * 5) 0) ≡ true) ⌝ }
-    ensures { λ r. ⌜ sixOf (performBy (now (p .entry)) (callAt (now (calls .entry)) i) (now (s .entry)) .answer) ≡ record { number = r .number; time = r .time; node = r .node; class = r .class; end = r .end; moves = r .moves } ⌝ }
+    ensures { λ r. ⌜ toldOf (performBy (now (p .entry)) (callAt (now (calls .entry)) i) (now (s .entry))) ≡ record { number = r .number; time = r .time; node = r .node; class = r .class; end = r .end; moves = r .moves; wait = r .wait } ⌝ }
     ensures { λ r. ⌜ now (s .exit) ≡ performBy (now (p .entry)) (callAt (now (calls .entry)) i) (now (s .entry)) .cells ⌝ }
 {
     let at = i * 5;
@@ -169,7 +175,7 @@ pub fn list(p: &Plan, s: &mut Cascade, calls: &[u64], answers: &mut [u64]) -> u3
     let mut i = 0;
     while i < count {
         let x = make(p, s, calls, i);
-        put_six(answers, i, x);
+        put_seven(answers, i, x);
         i += 1;
     }
     0

@@ -20,6 +20,7 @@ use Rattle.cells.specs.declared.Step.the-variants.{Grant, Rest, Quiet, R
 use Rattle.cells.specs.Layout.{end-cell, busy-cell, holder-cell, requestCell, forceCell, latestCell, ifNode, putTime, shareCode, shareOf, requestOf, requestCode}
 use Rattle.cells.specs.Decode.{planIn, coreOf}
 use Rattle.cells.specs.Masks.{putRequest, grantNode}
+use Rattle.cells.specs.Waits.{recordSince, waitAt}
 use Rattle.cells.specs.Frames.{advanceBy}
 use Rattle.cells.specs.Instants.{dueBy, dueIn, soughtBy}
 use Rattle.cells.specs.Turns.{Turned, chooseBy, climbBy}
@@ -53,7 +54,7 @@ putUpCode c k b s = requestCode (standing (putUp (shareOf (getD s (forceCell k) 
 
 -- what an accepted event changes, once the clock has come to its time
 unfoldable pub changeBy : List ℕ → Call → List ℕ → List ℕ
-changeBy P (ask c t k b) s = putRequest P k (putUpCode c k b s) s
+changeBy P (ask c t k b) s = putRequest P k (putUpCode c k b s) (recordSince k (putUpCode c k b s) t s)
 changeBy P (off t k) s = putRequest P k 0 s
 changeBy P (reserve t k n b) s = set s (latestCell k) (shareCode n b)
 changeBy P (until t) s = s
@@ -84,12 +85,12 @@ abbrev pub classNumber : Bool → ℕ
 classNumber isHigh = 1 + digit isHigh
 
 module _ (P : List ℕ) where
-  -- a grant at d to the turn's node, until d + b + O
+  -- a grant at d to the turn's node, until d + b + O, with its wait
   unfoldable pub grantBy : ℕ → Bool → Turned → Stepped
   grantBy d isHigh w =
       let end = d + bitsAt (w .turn .node) (w .cells) + planIn P .overhead in
       record {
-        answer = Grant d (w .turn .node) (classNumber isHigh) end (w .turn .moves);
+        answer = Grant d (w .turn .node) (classNumber isHigh) end (w .turn .moves) (waitAt d (w .turn .node) (w .cells));
         cells = busyUntil end (grantNode P isHigh (w .turn .node) (w .cells));
       }
 
@@ -119,21 +120,29 @@ abbrev pub classNumbered : ℕ → Class
 classNumbered n = if eqb n 2 then high else normal
 
 unfoldable pub stepAnswer : Step → Answer
-stepAnswer (Grant s k class end moves) = grant s k (classNumbered class) end moves
+stepAnswer (Grant s k class end moves wait) = grant s k (classNumbered class) end moves
 stepAnswer (Rest s moves) = rest s moves
 stepAnswer Quiet = quiet
 stepAnswer (Refused n) = refused n
 
--- a call's answer, and the cells that it leaves
+-- the wait of a grant; no other answer has one
+unfoldable pub stepWait : Step → ℕ
+stepWait (Grant s k class end moves wait) = wait
+stepWait (Rest s moves) = 0
+stepWait Quiet = 0
+stepWait (Refused n) = 0
+
+-- a call's answer with its wait, and the cells that it leaves
 pub record Performed : Type 0 where
   pub answer : Answer
+  pub wait : ℕ
   pub cells : List ℕ
 
 unfoldable pub eventLeft : List ℕ → Call → List ℕ → Performed
-eventLeft P call s = record { answer = eventAnswer (rowBy P call s); cells = eventBy P call s }
+eventLeft P call s = record { answer = eventAnswer (rowBy P call s); wait = 0; cells = eventBy P call s }
 
 unfoldable pub performBy : List ℕ → Call → List ℕ → Performed
-performBy P (step t) s = record { answer = stepAnswer (stepBy P t s .answer); cells = stepBy P t s .cells }
+performBy P (step t) s = record { answer = stepAnswer (stepBy P t s .answer); wait = stepWait (stepBy P t s .answer); cells = stepBy P t s .cells }
 performBy P (ask c t k b) s = eventLeft P (ask c t k b) s
 performBy P (off t k) s = eventLeft P (off t k) s
 performBy P (reserve t k n b) s = eventLeft P (reserve t k n b) s

@@ -9,6 +9,7 @@ use Rattle.rules.specs.Plan.{Plan}
 use Rattle.rules.specs.Core.{reclassed, frameOf}
 use Rattle.cells.specs.Layout.{clock-cell, timeAt, putTime, requestCell, forceCell, latestCell, grantedCell, requestOf, requestCode, shareOf}
 use Rattle.cells.specs.Decode.{planIn}
+use Rattle.cells.specs.Waits.{turnAll, startBy}
 use Rattle.cells.specs.Build.{buildMasks}
 
 -- node k at a frame's start: its latest reservation comes into force, its request may turn normal, and its high grants count from 0
@@ -30,6 +31,6 @@ startFrame P s = buildMasks P (startNodes (planIn P .nodes) s)
 abbrev pub newFrame : Plan → ℕ → List ℕ → Bool
 newFrame p t s = ltb (frameOf p (timeAt s clock-cell)) (frameOf p t)
 
--- the clock comes to t
+-- the clock comes to t; where a frame starts, the requests that it makes normal get its start
 unfoldable pub advanceBy : List ℕ → ℕ → List ℕ → List ℕ
-advanceBy P t s = putTime clock-cell t (if newFrame (planIn P) t s then startFrame P s else s)
+advanceBy P t s = putTime clock-cell t (if newFrame (planIn P) t s then startFrame P (turnAll P (startBy P s) s) else s)

@@ -14,11 +14,12 @@ use Rattle.ports.specs.Mask.{digit}
 -- a busy line; 4 is 0 while the line rests; 5 is the hub that has control;
 -- 6 is 1 where the latest grant was high; 7 is the number of standing requests. Each hub has 4
 -- cells: its masks and its pointers, of the normal class and of the high one. Behind the hubs stand
--- four tables of 256 cells, one cell a node: the requests, the reservations in force, the latest
--- accepted ones, and the high grants in the frame. They are tables since a frame's start passes
--- over whole ones, which the compiler vectorises.
+-- six tables of 256 cells, one cell a node: the requests, the reservations in force, the latest
+-- accepted ones, the high grants in the frame, and the low and the high 32 bits of the time at which
+-- the standing request was first put up. They are tables since a frame's start passes over whole
+-- ones, which the compiler vectorises.
 abbrev pub cells : ℕ
-cells = 1160
+cells = 1672
 
 abbrev pub clock-cell : ℕ
 clock-cell = 0
@@ -62,6 +63,12 @@ latestCell k = nodeCell k 2
 
 abbrev pub grantedCell : ℕ → ℕ
 grantedCell k = nodeCell k 3
+
+abbrev pub sinceCell : ℕ → ℕ
+sinceCell k = nodeCell k 4
+
+abbrev pub sinceHighCell : ℕ → ℕ
+sinceHighCell k = nodeCell k 5
 
 abbrev pub classOf : Bool → Class
 classOf true = high

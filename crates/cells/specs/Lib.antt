@@ -2,6 +2,7 @@
 pub mod Layout
 pub mod Decode
 pub mod Masks
+pub mod Waits
 pub mod Build
 pub mod Frames
 pub mod Instants

@@ -18,6 +18,7 @@ use Rattle.cells.specs.declared.Sought.the-variants as seek
 use Rattle.cells.specs.Layout.{standing-cell, maskCell, requestCell, forceCell, grantedCell, ifHub, ifNode}
 use Rattle.cells.specs.Decode.{planIn}
 use Rattle.cells.specs.Masks.{standsIn, countsBy, maskWith, alike, mendClass, standingAfter, grantedMore}
+use Rattle.cells.specs.Waits.{recordSince}
 use Rattle.cells.specs.Build.{hubsIn}
 use Rattle.cells.specs.Frames.{newFrame, advanceBy}
 use Rattle.cells.specs.Instants.{dueBy, soughtBy}
@@ -98,7 +99,7 @@ advanceWrites P t s = if newFrame (planIn P) t s then buildWrites P else 0
 
 -- beside `changeBy`
 unfoldable pub changeWrites : List ℕ → Call → List ℕ → ℕ
-changeWrites P (ask c t k b) s = putRequestWrites P k (putUpCode c k b s) s
+changeWrites P (ask c t k b) s = putRequestWrites P k (putUpCode c k b s) (recordSince k (putUpCode c k b s) t s)
 changeWrites P (off t k) s = putRequestWrites P k 0 s
 changeWrites P (reserve t k n b) s = 0
 changeWrites P (until t) s = 0

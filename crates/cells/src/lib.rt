@@ -4,7 +4,7 @@
 // The places below are the same numbers, and stand nowhere else.
 pub type Cascade = [u32; CELLS];
 
-pub const CELLS: usize = 1160;
+pub const CELLS: usize = 1672;
 
 // The clock and the end of a busy line take two cells each, the low 32 bits first: such a time is low + high * TWO_32.
 pub const CLOCK: usize = 0;
@@ -46,7 +46,7 @@ pub const MARK: u32 = 1;
 // Port 1 without mark, where a hub starts afresh.
 pub const PORT_1: u32 = 2;
 
-// Behind the hubs stand four tables of MOST_NODES cells, with node k's cell at k - 1 in each. Here each of them begins.
+// Behind the hubs stand six tables of MOST_NODES cells, with node k's cell at k - 1 in each. Here each of them begins.
 // They are tables since a frame's start passes over whole ones, which the compiler vectorises.
 pub const REQUEST: usize = 136;
 
@@ -55,6 +55,11 @@ pub const FORCE: usize = 392;
 pub const LATEST: usize = 648;
 
 pub const GRANTED: usize = 904;
+
+// The time at which a node's standing request was first put up: its low 32 bits in one table, its high ones in the next.
+pub const SINCE: usize = 1160;
+
+pub const SINCE_HIGH: usize = 1416;
 
 // A request is NORMAL + b or HIGH + b; below NORMAL none stands.
 pub const NORMAL: u32 = 65536;
@@ -101,7 +106,7 @@ pub struct Turn {
     pub moves: u64,
 }
 
-// A step's answer. The class is 1 for normal and 2 for high.
+// A step's answer. The class is 1 for normal and 2 for high; the wait is the time less that at which the request was first put up.
 pub enum Step {
     Grant {
         time: u64,
@@ -109,6 +114,7 @@ pub enum Step {
         class: u32,
         end: u64,
         moves: u64,
+        wait: u64,
     },
     Rest {
         time: u64,

@@ -1,11 +1,10 @@
 -- The entry points meet the demands: every list of the six calls, from the fresh table of any plan text that is taken.
 use Prim.Native.Nat.{ℕ, _-_, _*_, _≤_}
-use mathlib.Core.Path.{_≡_, refl, sym, ap, ap₂, subst, subst₂, _∙_}
+use mathlib.Core.Path.{_≡_, refl, sym, ap, subst, subst₂, _∙_}
 use mathlib.Core.Bool.{Bool, false}
 use mathlib.Core.List.{List, [], _∷_, map}
 use Rattle.rules.specs.Plan.{Plan, withStrict, levels}
-use Rattle.rules.specs.Call.{Call, Answer}
-use Rattle.rules.specs.Core.{Core}
+use Rattle.rules.specs.Call.{Call, step, Answer}
 use Rattle.rules.specs.Machine.{Hub, perform}
 use Rattle.rules.specs.Control.{Control, control}
 use Rattle.rules.specs.Run.{Entry, made}
@@ -16,27 +15,34 @@ use Rattle.rules.specs.Saving.{SavesOn}
 use Rattle.rules.specs.Travel.{Travels}
 use Rattle.rules.specs.Looks.{callLooks, mostInCall, PlaceOf, FewLooks}
 use Rattle.rules.specs.Promises.{NoTimeLost, Admits}
+use Rattle.rules.specs.Words.{clockAt}
+use Rattle.rules.specs.WaitWords.{standAt}
+use Rattle.rules.specs.Waits.{watched, standOf, WaitTold}
 use Rattle.rules.specs.Strict.{answersIn, StaysNormal}
 use Rattle.rules.proofs.Core.Acceptance.{acceptable-taken, taken-acceptable}
-use Rattle.rules.proofs.Core.AlwaysSound.{Good, good}
+use Rattle.rules.proofs.Core.AlwaysSound.{Good}
 use Rattle.rules.proofs.Control.FollowsFlat.{control-follows}
 use Rattle.plan.specs.Tables.{planOf}
 use Rattle.plan.specs.Reading.{reading}
 use Rattle.plan_theory.specs.Taken.{TakenAs}
 use Rattle.demands.specs.Promises.{Promises}
 use Rattle.demands.proofs.Promises.{drawn-promises}
+use Rattle.cells.specs.declared.Step.the-variants.{Grant}
 use Rattle.cells.specs.Layout.{timeAt, clock-cell}
 use Rattle.cells.specs.Decode.{planIn, coreOf, hubOf}
-use Rattle.cells.specs.Calls.{performBy}
+use Rattle.cells.specs.Waits.{timesOf}
+use Rattle.cells.specs.Calls.{stepBy, classNumbered, stepAnswer, stepWait, performBy}
 use Rattle.cells.specs.Looks.{looksBy}
 use Rattle.cells.specs.Run.{madeBy}
 use Rattle.refinement.specs.Kept.{Ready}
 use Rattle.refinement.proofs.ReadyPlan.{ready, plan-in}
-use Rattle.refinement.proofs.Performed.{Agrees, performed}
-use Rattle.refinement.proofs.Runs.{RunTied, run-tied}
+use Rattle.refinement.proofs.Performed.{Agrees, agreed-hub, performed}
+use Rattle.refinement.proofs.Unaffected.{unaffected}
+use Rattle.refinement.proofs.Runs.{RunTied, run-tied, run-good}
 use Rattle.refinement.proofs.Looked.Calls.{same-looks}
 use Rattle.refinement.proofs.Written.Told.{Tells, tells}
 use Rattle.refinement.proofs.Written.Calls.{few-writes}
+use Rattle.refinement.proofs.WatchedRuns.{run-times, next-entry}
 use Rattle.demands.specs.Demands.{Calls, callsOf, Demands}
 use Rattle.demands.proofs.Unchanged.{refusal-unchanged, quiet-unchanged}
 use Rattle.demands.proofs.Sequence.{Made, sequence}
@@ -69,19 +75,34 @@ module _ (P : List ℕ) (R : Ready P) (past : List Entry) (m : Made P past (made
   same = m .past-is ∙ tied .past
 
   fine : Good p (R .drawn .figures) (control p) (control-follows p (R .drawn)) (hubOf p s)
-  fine =
-      subst (Good p (R .drawn .figures) (control p) (control-follows p (R .drawn))) (sym (tied .hub))
-      (good p (R .drawn .figures) (control p) (control-follows p (R .drawn)) (R .drawn .some-node) calls)
+  fine = run-good P R calls tied
 
   agrees : (call : Call) → Agrees p (performBy P call s) (perform p (control p) call (hubOf p s))
   agrees call = performed P R s (tied .kept) fine call
 
   leaves : (call : Call) → hubOf p (performBy P call s .cells) ≡ perform p (control p) call (hubOf p s) .hub
-  leaves call = ap₂ (λ (c : Core) (σ : Control). record { core = c; turn = σ }) (agrees call .left .core) (agrees call .left .control)
+  leaves call = agreed-hub (agrees call)
 
   -- where the clock is left
   left-clock : (call : Call) → perform p (control p) call (hubOf p s) .hub .core .clock ≡ timeAt (performBy P call s .cells) clock-cell
   left-clock call = ap (λ (h : Hub Control). h .core .clock) (sym (leaves call)) ∙ clock-cells p (performBy P call s .cells)
+
+  -- what is recorded is what the calls and answers tell
+  recorded : (k : ℕ) → standAt p k (clockAt past) past ≡ standOf (coreOf p s .request k) (timesOf p s k)
+  recorded k =
+      (λ i. standAt p k (clockAt (same i)) (same i)) ∙ kept .waits .recorded-told k
+      ∙ sym (λ i. standOf (tied .hub i .core .request k) (run-times P R calls i k))
+
+  -- and so is the wait of one more step's grant, by the list with that step
+  wait-told : (t d k class end moves wait : ℕ) → stepBy P t s .answer ≡ Grant d k class end moves wait
+      → WaitTold p k (classNumbered class) d wait past
+  unfolding performBy stepAnswer stepWait
+  wait-told t d k class end moves wait e =
+      let before = watched p (control p) calls .past in
+      subst (WaitTold p k (classNumbered class) d wait) (kept .waits .unaffected ∙ sym same)
+      (drawn-promises p (R .drawn) (step t ∷ calls) .waits .waits-told [] t d k (classNumbered class) end moves wait before
+      (next-entry P R (step t) calls
+      ∙ (λ i. record { entry = record { call = step t; answer = stepAnswer (e i) }; wait = stepWait (e i) } ∷ before)))
 
   -- the latest call of the list with one call more
   one-more : (call : Call) → PlaceOf (made p (control p) (call ∷ calls) .past)
@@ -117,6 +138,9 @@ module _ (P : List ℕ) (R : Ready P) (past : List Entry) (m : Made P past (made
         as-normal = λ e.
             ap answersIn same ∙ ap (λ (q : Plan). answersIn (made q (control q) calls .past)) (not-strict p e) ∙ kept .as-normal .answers;
         stays-normal = subst (StaysNormal p) (sym same) (kept .stays-normal);
+        recorded = recorded;
+        wait-told = wait-told;
+        unaffected = unaffected P R s (tied .kept) fine;
         hub = tied .hub;
         answers = λ call. agrees call .answer;
         leaves = leaves;

@@ -17,6 +17,7 @@ use Rattle.rules.proofs.AnyMoment.Theorem.{control-any-moment}
 use Rattle.rules.proofs.Strict.EitherDefault.{either-default}
 use Rattle.rules.proofs.Strict.TakenAsNormal.{taken-as-normal}
 use Rattle.rules.proofs.Strict.StaysNormal.{stays-normal}
+use Rattle.rules.proofs.Waits.Theorem.{waits}
 use Rattle.rules.proofs.Promised.NoTimeLost.{no-time-lost}
 use Rattle.rules.proofs.Core.Stable.{clock-grows}
 use Rattle.rules.proofs.Promised.Unchanged.{refusal-changes-nothing, quiet-changes-nothing}
@@ -48,6 +49,7 @@ module _ (p : Plan) (drawn : Drawn p) (calls : List Call) where
         either-default = either-default p drawn;
         as-normal = taken-as-normal p calls;
         stays-normal = stays-normal p drawn calls;
+        waits = waits p drawn calls;
         no-time-lost = no-time-lost p (drawn .figures) (control p) (control-follows p drawn) (drawn .some-node) calls;
         clock-grows = one-more;
         refusal-changes-nothing = λ call. refusal-changes-nothing p (control p) call (cascade p calls .hub);

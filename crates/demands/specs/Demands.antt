@@ -8,7 +8,7 @@
 --   off(p, s, t, k)          EventPromise P (off t k) s r z
 --   reserve(p, s, t, k, n, b) EventPromise P (reserve t k n b) s r z
 --   until(p, s, t)           EventPromise P (until t) s r z
---   step(p, s, t)            StepPromise P t s r z
+--   step(p, s, t)            StepPromise P t s r z, where r is a Grant with its wait, a Rest, Quiet or Refused
 --   lembuya_longest(p)       answers longest (planOf P), the longest packet (lembuya/src/lib.rt)
 --   lembuya_strict(p)        answers 1 where planOf P .strict, else 0
 --
@@ -35,6 +35,9 @@ use Rattle.rules.specs.Looks.{callLooks, mostInCall, FewLooks}
 use Rattle.rules.specs.Demand.{Holds3}
 use Rattle.rules.specs.AnyMoment.{AnyMoment}
 use Rattle.rules.specs.Promises.{NoTimeLost, Admits, Acceptable}
+use Rattle.rules.specs.Words.{clockAt}
+use Rattle.rules.specs.WaitWords.{standAt}
+use Rattle.rules.specs.Waits.{standOf, WaitTold}
 use Rattle.rules.specs.Strict.{EitherDefault, runWith, allAsTaken, answersIn, StaysNormal}
 use Rattle.text.specs.Line.{lines}
 use Rattle.plan.specs.Reading.{reading, leaves}
@@ -44,11 +47,14 @@ use Rattle.plan_theory.specs.Tree.{stands, withStrictLine, draw}
 use Rattle.plan_theory.specs.Taken.{DrawnBy, TakenAs, RefusedAt, TakenFor}
 use Rattle.plan_theory.specs.First.{RowApplies, DecidedBy}
 use Rattle.cells.specs.declared.Step.{Step}
+use Rattle.cells.specs.declared.Step.the-variants.{Grant}
 use Rattle.cells.specs.Layout.{timeAt, clock-cell}
 use Rattle.cells.specs.Decode.{hubOf, coreOf}
 use Rattle.cells.specs.Fresh.{freshCells}
-use Rattle.cells.specs.Calls.{isEvent, EventPromise, StepPromise, eventAnswer, stepAnswer, performBy}
+use Rattle.cells.specs.Waits.{timesOf}
+use Rattle.cells.specs.Calls.{isEvent, EventPromise, StepPromise, stepBy, eventAnswer, classNumbered, stepAnswer, performBy}
 use Rattle.cells.specs.Looks.{looksBy}
+use Rattle.refinement.specs.Waits.{OtherTimes}
 use Rattle.refinement.specs.Written.{FewWrites}
 
 -- Demand 2, of plans
@@ -129,6 +135,16 @@ module _ (P : List ℕ) (p : Plan) (past : List Entry) (s : List ℕ) where
     pub as-normal : p .strict ≡ false → answersIn past ≡ answersIn (runWith true p (allAsTaken p (callsOf past)) .past)
     -- such a request stays a normal one when a reservation comes into force: it is no high request, and its grant is a normal grant
     pub stays-normal : StaysNormal p past
+    -- Request 1 of document 02: what is recorded of each node is the time at which, by the calls and answers alone, its
+    -- standing request was first put up,
+    pub recorded : (k : ℕ) → standAt p k (clockAt past) past ≡ standOf (coreOf p s .request k) (timesOf p s k)
+    -- a further step's grant tells the wait, its time less that time,
+    pub wait-told : (t d k class end moves wait : ℕ) → stepBy P t s .answer ≡ Grant d k class end moves wait
+        → WaitTold p k (classNumbered class) d wait past
+    -- and grants and moves are unaffected: with any other recorded times each further call answers the same and leaves the same
+    -- hub. Of the whole list `by-rules` says it, and `hub`: the rules' own hub has no recorded times
+    pub unaffected : (r : List ℕ) → OtherTimes s r → (call : Call)
+        → (performBy P call r .answer ≡ answerTo call) × (hubOf p (performBy P call r .cells) ≡ hubOf p (cellsAfter call))
     -- the cells are the hub that the calls left, and each further call answers as the rules do on that hub
     pub hub : hubOf p s ≡ made p (control p) (callsOf past) .hub
     pub answers : (call : Call) → answerTo call ≡ perform p (control p) call (hubOf p s) .answer

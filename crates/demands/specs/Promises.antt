@@ -16,6 +16,7 @@ use Rattle.rules.specs.Demand.{Holds3}
 use Rattle.rules.specs.AnyMoment.{AnyMoment}
 use Rattle.rules.specs.Promises.{NoTimeLost, Admits, Acceptable}
 use Rattle.rules.specs.Strict.{EitherDefault, TakenAsNormal, StaysNormal}
+use Rattle.rules.specs.Waits.{Waits}
 
 module _ (p : Plan) (calls : List Call) where
   -- the cascade after these calls, with the list of calls and answers
@@ -56,6 +57,9 @@ module _ (p : Plan) (calls : List Call) where
     pub as-normal : TakenAsNormal p calls
     -- a request so taken stays a normal one when a reservation comes into force: it is no high request, and its grant is a normal grant
     pub stays-normal : StaysNormal p (cascade .past)
+    -- Request 1 of document 02: with the recorded times beside it the run is the same one; what is recorded is the time that the
+    -- calls and answers alone tell, and each grant's wait is its time less that time
+    pub waits : Waits p calls
     -- No time is lost, and the clock never goes back
     pub no-time-lost : NoTimeLost p (control p) (cascade .hub)
     pub clock-grows : (call : Call) → cascade .hub .core .clock ≤ left call .core .clock

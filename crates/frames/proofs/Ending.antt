@@ -5,8 +5,8 @@ use mathlib.Core.Bool.{true, false}
 use native.Mathlib.Omega.{arith}
 use native.Mathlib.Nat.{add-mul, div-zero, div-mul-le-self, le-div-iff-mul-le, div-lt-iff-lt-mul, lt-div-mul-add}
 use lib.Dec.{ltb, leb, eqb}
-use borrow.Author.Tests.{lt-ltb, le-ltb, leb-true, leb-false, eqb-true, eqb-false}
-use Rattle.rules.proofs.Laws.Passes.{Which, which, yes′, no′}
+use borrow.Author.Tests.{ltb-true, lt-ltb, le-ltb, leb-true, leb-false, eqb-true, eqb-false}
+use Rattle.rules.proofs.Laws.Passes.{Which, which, yes′, no′, true-false}
 
 module _ (f c t : ℕ) where
   pub no-frame : f ≡ 0 → false ≡ ltb (c / f) (t / f)
@@ -33,6 +33,16 @@ module _ (f c t : ℕ) where
             let h = leb-false f (t - c / f * f) e in
             let s = div-mul-le-self c f in
             e ∙ sym (le-ltb (c / f) (t / f) (before-next (omega arith)))
+
+    -- it is at t at the latest where c's frame ends before t or at t
+    pub by-then : ltb (c / f) (t / f) ≡ true → (c / f + 1) * f ≤ t
+    by-then e =
+        let h = ltb-true (c / f) (t / f) e in
+        le-div-iff-mul-le {k = f} {x = c / f + 1} {y = t} (omega arith) .0 (omega arith)
+
+  -- a frame of 0 never ends
+  pub some-frame : f ≡ 0 → ltb (c / f) (t / f) ≡ true → ⊥
+  some-frame e h = true-false h (sym (no-frame e))
 
   -- an earlier time lies in no later frame
   pub not-behind : t ≤ c → false ≡ ltb (c / f) (t / f)

@@ -7,6 +7,7 @@ use native.Mathlib.Numerals.{unary-clauses}
 use Rattle.cells.specs.Layout.{clock-cell, putTime}
 use Rattle.cells.specs.Decode.{planIn}
 use Rattle.cells.specs.Build.{buildMasks}
+use Rattle.cells.specs.Waits.{turnAll, startBy}
 use Rattle.cells.specs.Frames.{startCells, startNodes, startFrame, newFrame, advanceBy}
 
 pub starts-none : (s : List ℕ) (n : ℕ) → n ≡ 0 → s ≡ startNodes n s
@@ -22,10 +23,15 @@ pub starts-all : (P s : List ℕ) (n : ℕ) (r z : List ℕ) → n ≡ planIn P 
 unfolding startFrame
 starts-all P s n r z a e i = i ∙ ap (buildMasks P) (e ∙ ap (λ (x : ℕ). startNodes x s) a)
 
+-- behind the recorded times of the requests that it makes normal
+pub starts-turned : (P s : List ℕ) (start : ℕ) (r z : List ℕ) → start ≡ startBy P s → r ≡ turnAll P start s → z ≡ startFrame P r
+    → z ≡ startFrame P (turnAll P (startBy P s) s)
+starts-turned P s start r z a e i = i ∙ ap (startFrame P) (e ∙ ap (λ (x : ℕ). turnAll P x s) a)
+
 -- the clock comes to t, by whether a frame starts on the way
 module _ (P s : List ℕ) (t : ℕ) where
   pub comes-with-start :
-      (u : List ℕ) → newFrame (planIn P) t s ≡ true → u ≡ startFrame P s → putTime clock-cell t u ≡ advanceBy P t s
+      (u : List ℕ) → newFrame (planIn P) t s ≡ true → u ≡ startFrame P (turnAll P (startBy P s) s) → putTime clock-cell t u ≡ advanceBy P t s
   unfolding advanceBy
   comes-with-start u n e = rw (e, n)
 

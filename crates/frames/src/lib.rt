@@ -4,6 +4,7 @@
 use cells::Cascade;
 use plan_tree::Plan;
 ghost use mathlib.Core.Path.{_≡_};
+ghost use mathlib.Core.Bool.{true};
 ghost use Prim.Native.Nat.{_+_, _*_, _/_, _%_, _≤_, _<_};
 ghost use lib.Dec.{ltb};
 ghost use lib.ListN.{getD};
@@ -13,6 +14,7 @@ ghost use Rattle.rules.specs.Core.{reclassed};
 ghost use Rattle.rules.specs.Rows.{load, loads};
 ghost use Rattle.cells.specs.Layout.{half, requestOf, requestCode, shareOf, latestCell};
 ghost use Rattle.cells.specs.Decode.{planIn, coreOf};
+ghost use Rattle.cells.specs.Waits.{turnAll, startBy};
 ghost use Rattle.cells.specs.Frames.{startCells, startNodes, startFrame, newFrame, advanceBy};
 
 // The frame that a time lies in. A plan that was taken has no frame of 0.
@@ -105,12 +107,33 @@ pub fn new_frame(p: &Plan, s: &Cascade, t: u64) -> bool
     ends_by(p[plan::FRAME], requests::clock(s), t)
 }
 
+// The start of the frame behind the clock's, where that frame ends at t at the latest.
+fn next_start(frame: u32, clock: u64, t: u64) -> u64
+    requires { ⌜ ltb (clock / frame) (t / frame) ≡ true ⌝ }
+    ensures { λ r. ⌜ r ≡ (clock / frame + 1) * frame ⌝ }
+{
+    if frame == 0 {
+        return 0;
+    }
+    (clock / frame as u64 + 1) * frame as u64
+}
+
+// A frame starts before t or at t: the requests that it makes normal get its start, and then it has its work done.
+fn start_at(p: &Plan, s: &mut Cascade, t: u64)
+    requires { ⌜ newFrame (planIn (now p)) t (now s) ≡ true ⌝ }
+    ensures { λ _. ⌜ now (s .exit) ≡ startFrame (now (p .entry)) (turnAll (now (p .entry)) (startBy (now (p .entry)) (now (s .entry))) (now (s .entry))) ⌝ }
+{
+    let start = next_start(p[plan::FRAME], requests::clock(s), t);
+    waits::turn(p, s, start);
+    start_frame(p, s);
+}
+
 // The clock comes to t.
 pub fn advance(p: &Plan, s: &mut Cascade, t: u64)
     ensures { λ _. ⌜ now (s .exit) ≡ advanceBy (now (p .entry)) t (now (s .entry)) ⌝ }
 {
     if new_frame(p, s, t) {
-        start_frame(p, s);
+        start_at(p, s, t);
     }
     requests::put_clock(s, t);
 }

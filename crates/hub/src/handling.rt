@@ -54,6 +54,7 @@ fn grant_turn(p: &Plan, s: &mut Cascade, d: u64, high: bool, t: Turn) -> Step
 {
     let node = t.node;
     let end = end_of(d, bits_at(s, node), p[plan::OVERHEAD]);
+    let wait = waits::wait(s, d, node);
     requests::grant_node(p, s, high, node);
     requests::busy_until(s, end);
     Step::Grant {
@@ -62,6 +63,7 @@ fn grant_turn(p: &Plan, s: &mut Cascade, d: u64, high: bool, t: Turn) -> Step
         class: class_number(high),
         end,
         moves: t.moves,
+        wait,
     }
 }
 

@@ -40,6 +40,7 @@ fn ask(p: &Plan, s: &mut Cascade, high: bool, t: u64, k: u64, b: u64) -> u32
     }
     frames::advance(p, s, t);
     let code = request_code(s, high, k as u32, b);
+    waits::record(s, k as u32, code, t);
     requests::put_request(p, s, k as u32, code);
     0
 }

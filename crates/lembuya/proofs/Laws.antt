@@ -12,10 +12,10 @@ use Rattle.writer.specs.Write.{putNumber, putAnswer, putRow}
 use Rattle.writer.proofs.Writes.{put-told}
 use Rattle.cells.specs.declared.Step.{Step}
 use Rattle.cells.specs.declared.Step.the-variants as step
-use Rattle.cells.specs.Calls.{stepBy, stepAnswer, performBy}
-use Rattle.call_list.specs.Table.{Six, sixOf, putSix}
-use Rattle.call_list.proofs.Numbers.{stepSix, step-six}
-use Rattle.lembuya.specs.Exports.{readNumber, putTold, putStep, putEnd}
+use Rattle.cells.specs.Calls.{stepBy, stepAnswer, stepWait, performBy}
+use Rattle.call_list.specs.Table.{Seven, sevenOf, putSeven}
+use Rattle.call_list.proofs.Numbers.{stepSeven, step-seven}
+use Rattle.lembuya.specs.Exports.{readNumber, putTold, stepNumber, putStep, putEnd}
 
 -- ---- a plan
 
@@ -35,31 +35,31 @@ refused-told told line number e = (ap readNumber e, ap (λ (y : Answer). putTold
 
 -- ---- a step
 
--- what a step's answer x leaves, where y are its six numbers
-unfoldable pub stored : Step → Six → List ℕ → List ℕ
-stored (step.Grant time node class end moves) y answer = putSix 0 y answer
-stored (step.Rest time moves) y answer = putSix 0 y answer
-stored step.Quiet y answer = putSix 0 y answer
+-- what a step's answer x leaves, where y are its seven numbers
+unfoldable pub stored : Step → Seven → List ℕ → List ℕ
+stored (step.Grant time node class end moves wait) y answer = putSeven 0 y answer
+stored (step.Rest time moves) y answer = putSeven 0 y answer
+stored step.Quiet y answer = putSeven 0 y answer
 stored (step.Refused n) y answer = answer
 
-put-stored : (x : Step) (answer : List ℕ) → stored x (sixOf (stepAnswer x)) answer ≡ putStep x answer
+put-stored : (x : Step) (answer : List ℕ) → stored x (sevenOf (stepAnswer x) (stepWait x)) answer ≡ putStep x answer
 unfolding stored putStep
-put-stored (step.Grant time node class end moves) answer = refl
+put-stored (step.Grant time node class end moves wait) answer = refl
 put-stored (step.Rest time moves) answer = refl
 put-stored step.Quiet answer = refl
 put-stored (step.Refused n) answer = refl
 
 -- the number of a step's answer x, what is stored of it and the cells left are those of the step
 pub stepped : (P : List ℕ) (t : ℕ) (s answer : List ℕ) {x : Step} {r : ℕ} {z ans : List ℕ} → x ≡ stepBy P t s .answer
-    → z ≡ stepBy P t s .cells → ans ≡ stored x (stepSix x) answer → r ≡ stepSix x .number
-    → (r ≡ sixOf (stepAnswer (stepBy P t s .answer)) .number)
+    → z ≡ stepBy P t s .cells → ans ≡ stored x (stepSeven x) answer → r ≡ stepSeven x .number
+    → (r ≡ stepNumber (stepBy P t s .answer))
     × ((ans ≡ putStep (stepBy P t s .answer) answer) × (z ≡ stepBy P t s .cells))
-unfolding performBy
+unfolding performBy stepNumber
 stepped P t s answer {x} e cells left number =
-    let w = sym (step-six P t s e) in
-    let six = w ∙ ap (λ (y : Step). sixOf (stepAnswer y)) (sym e) in
-    let ans = left ∙ ap (λ (y : Six). stored x y answer) six ∙ put-stored x answer ∙ ap (λ (y : Step). putStep y answer) e in
-    (number ∙ ap (λ (y : Six). y .number) w, (ans, cells))
+    let w = sym (step-seven P t s e) in
+    let numbers = w ∙ ap (λ (y : Step). sevenOf (stepAnswer y) (stepWait y)) (sym e) in
+    let ans = left ∙ ap (λ (y : Seven). stored x y answer) numbers ∙ put-stored x answer ∙ ap (λ (y : Step). putStep y answer) e in
+    (number ∙ ap (λ (y : Seven). y .number) w, (ans, cells))
 
 -- ---- a run
 

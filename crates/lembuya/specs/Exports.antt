@@ -6,8 +6,8 @@ use Rattle.plan.specs.declared.Answer.{Answer}
 use Rattle.plan.specs.declared.Answer.the-variants.{Taken, Refused}
 use Rattle.cells.specs.declared.Step.{Step}
 use Rattle.cells.specs.declared.Step.the-variants as step
-use Rattle.cells.specs.Calls.{stepAnswer}
-use Rattle.call_list.specs.Table.{sixOf, putSix}
+use Rattle.cells.specs.Calls.{stepAnswer, stepWait}
+use Rattle.call_list.specs.Table.{sevenOf, putSeven}
 use Rattle.writer.specs.declared.Put.{Put}
 use Rattle.writer.specs.declared.Put.the-variants.{Behind, Short}
 
@@ -21,11 +21,15 @@ unfoldable pub putTold : Answer → List ℕ → List ℕ
 putTold (Taken nodes hubs at line) s = set (set (set (set s 0 nodes) 1 hubs) 2 at) 3 line
 putTold (Refused line number) s = set s 3 line
 
--- a step's six numbers; a refused step writes none of them
+-- a step's first number
+unfoldable pub stepNumber : Step → ℕ
+stepNumber x = sevenOf (stepAnswer x) (stepWait x) .number
+
+-- a step's seven numbers; a refused step writes none of them
 unfoldable pub putStep : Step → List ℕ → List ℕ
 putStep x s =
-    let six = putSix 0 (sixOf (stepAnswer x)) s in
-    elim x [ step.Grant time node class end moves ↦ six | step.Rest time moves ↦ six | step.Quiet ↦ six | step.Refused n ↦ s ]
+    let seven = putSeven 0 (sevenOf (stepAnswer x) (stepWait x)) s in
+    elim x [ step.Grant time node class end moves wait ↦ seven | step.Rest time moves ↦ seven | step.Quiet ↦ seven | step.Refused n ↦ s ]
 
 -- where a log ends; what was there where it didn't fit
 unfoldable pub putEnd : Put → List ℕ → List ℕ

@@ -15,12 +15,12 @@ ghost use Rattle.writer.specs.Write.{putAnswer, putBuffer, putRow};
 ghost use Rattle.plan.specs.Tables.{planOf};
 ghost use Rattle.plan.specs.Reading.{reading, leaves};
 ghost use Rattle.cells.specs.Fresh.{freshCells};
-ghost use Rattle.cells.specs.Calls.{EventPromise, stepBy, stepAnswer};
-ghost use Rattle.call_list.specs.Table.{sixOf, putSix};
+ghost use Rattle.cells.specs.Calls.{EventPromise, stepBy};
+ghost use Rattle.call_list.specs.Table.{putSeven};
 ghost use Rattle.call_list.specs.Promise.{ListPromise};
 ghost use Rattle.log_spec.specs.Log.{logBytes};
 ghost use Rattle.log_spec.specs.Cells.{planLeft, cellsLeft};
-ghost use Rattle.lembuya.specs.Exports.{readNumber, putTold, putStep, putEnd};
+ghost use Rattle.lembuya.specs.Exports.{readNumber, putTold, stepNumber, putStep, putEnd};
 
 // What a plan's reader tells: nodes, hubs, where the events start and on which line.
 fn tell(told: &mut [u64; 4], nodes: u32, hubs: u32, at: usize, line: usize)
@@ -114,17 +114,18 @@ pub extern "C" fn lembuya_until(p: &Plan, s: &mut Cascade, t: u64) -> u32
     hub::until(p, s, t)
 }
 
-// The six numbers of a step's answer; their first is returned.
+// The seven numbers of a step's answer; their first is returned.
 fn put_step(
-    answer: &mut [u64; 6],
+    answer: &mut [u64; 7],
     number: u32,
     time: u64,
     node: u32,
     class: u32,
     end: u64,
     moves: u64,
+    wait: u64,
 ) -> u32
-    ensures { λ r. ⌜ now (answer .exit) ≡ putSix 0 (record { number = number; time = time; node = node; class = class; end = end; moves = moves }) (now (answer .entry)) ⌝ }
+    ensures { λ r. ⌜ now (answer .exit) ≡ putSeven 0 (record { number = number; time = time; node = node; class = class; end = end; moves = moves; wait = wait }) (now (answer .entry)) ⌝ }
     ensures { λ r. ⌜ r ≡ number ⌝ }
 {
     answer[0] = number as u64;
@@ -133,12 +134,13 @@ fn put_step(
     answer[3] = class as u64;
     answer[4] = end;
     answer[5] = moves;
+    answer[6] = wait;
     number
 }
 
 #[no_mangle]
-pub extern "C" fn lembuya_step(p: &Plan, s: &mut Cascade, t: u64, answer: &mut [u64; 6]) -> u32
-    ensures { λ r. ⌜ r ≡ sixOf (stepAnswer (stepBy (now (p .entry)) t (now (s .entry)) .answer)) .number ⌝ }
+pub extern "C" fn lembuya_step(p: &Plan, s: &mut Cascade, t: u64, answer: &mut [u64; 7]) -> u32
+    ensures { λ r. ⌜ r ≡ stepNumber (stepBy (now (p .entry)) t (now (s .entry)) .answer) ⌝ }
     ensures { λ r. ⌜ now (answer .exit) ≡ putStep (stepBy (now (p .entry)) t (now (s .entry)) .answer) (now (answer .entry)) ⌝ }
     ensures { λ r. ⌜ now (s .exit) ≡ stepBy (now (p .entry)) t (now (s .entry)) .cells ⌝ }
 {
@@ -149,9 +151,10 @@ pub extern "C" fn lembuya_step(p: &Plan, s: &mut Cascade, t: u64, answer: &mut [
             class,
             end,
             moves,
-        } => put_step(answer, 1, time, node, class, end, moves),
-        Step::Rest { time, moves } => put_step(answer, 2, time, 0, 0, 0, moves),
-        Step::Quiet => put_step(answer, 3, 0, 0, 0, 0, 0),
+            wait,
+        } => put_step(answer, 1, time, node, class, end, moves, wait),
+        Step::Rest { time, moves } => put_step(answer, 2, time, 0, 0, 0, moves, 0),
+        Step::Quiet => put_step(answer, 3, 0, 0, 0, 0, 0, 0),
         Step::Refused(n) => n,
     }
 }

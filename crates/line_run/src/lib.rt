@@ -26,6 +26,7 @@ fn goes_on(a: Step) -> bool
             class: _,
             end: _,
             moves: _,
+            wait: _,
         } => true,
         Step::Rest { time: _, moves: _ } => true,
         Step::Quiet => false,

@@ -20,15 +20,21 @@ refused-plan : firstLine (Refused 15 16) ≡ 40 ∷ 114 ∷ 101 ∷ 102 ∷ 117 
 unfolding firstLine refusedLine drawLine drawForm drawNumbers digits digitsBy
 refused-plan = refl
 
--- `(grant 7 3 2 40 1)`
-granted : stepLine (Grant 7 3 2 40 1) ≡ 40 ∷ 103 ∷ 114 ∷ 97 ∷ 110 ∷ 116 ∷ 32 ∷ 55 ∷ 32 ∷ 51 ∷ 32 ∷ 50 ∷ 32 ∷ 52 ∷ 48 ∷ 32 ∷ 49 ∷ 41 ∷ 10 ∷ []
+-- `(grant 7 3 2 40 1 5)`
+granted : stepLine (Grant 7 3 2 40 1 5) ≡ 40 ∷ 103 ∷ 114 ∷ 97 ∷ 110 ∷ 116 ∷ 32 ∷ 55 ∷ 32 ∷ 51 ∷ 32 ∷ 50 ∷ 32 ∷ 52 ∷ 48 ∷ 32 ∷ 49 ∷ 32 ∷ 53 ∷ 41 ∷ 10 ∷ []
 unfolding stepLine grantLine drawLine drawForm drawNumbers digits digitsBy
 granted = refl
 
--- `(grant 7 3 2 40 1)`
-granted-answer : answerLine 15 (grant 7 3 high 40 1) ≡ 40 ∷ 103 ∷ 114 ∷ 97 ∷ 110 ∷ 116 ∷ 32 ∷ 55 ∷ 32 ∷ 51 ∷ 32 ∷ 50 ∷ 32 ∷ 52 ∷ 48 ∷ 32 ∷ 49 ∷ 41 ∷ 10 ∷ []
+-- `(grant 7 3 2 40 1 5)`
+granted-answer : answerLine 15 (grant 7 3 high 40 1) 5 ≡ 40 ∷ 103 ∷ 114 ∷ 97 ∷ 110 ∷ 116 ∷ 32 ∷ 55 ∷ 32 ∷ 51 ∷ 32 ∷ 50 ∷ 32 ∷ 52 ∷ 48 ∷ 32 ∷ 49 ∷ 32 ∷ 53 ∷ 41 ∷ 10 ∷ []
 unfolding answerLine grantLine drawLine drawForm drawNumbers digits digitsBy
 granted-answer = refl
+
+-- `(grant 13000 4 1 20000 0 13000)`, the second grant of document 01's log, with its wait
+waited : stepLine (Grant 13000 4 1 20000 0 13000) ≡
+    40 ∷ 103 ∷ 114 ∷ 97 ∷ 110 ∷ 116 ∷ 32 ∷ 49 ∷ 51 ∷ 48 ∷ 48 ∷ 48 ∷ 32 ∷ 52 ∷ 32 ∷ 49 ∷ 32 ∷ 50 ∷ 48 ∷ 48 ∷ 48 ∷ 48 ∷ 32 ∷ 48 ∷ 32 ∷ 49 ∷ 51 ∷ 48 ∷ 48 ∷ 48 ∷ 41 ∷ 10 ∷ []
+unfolding stepLine grantLine drawLine drawForm drawNumbers digits digitsBy
+waited = refl
 
 -- `(rest 40 2)`
 rested : stepLine (Rest 40 2) ≡ 40 ∷ 114 ∷ 101 ∷ 115 ∷ 116 ∷ 32 ∷ 52 ∷ 48 ∷ 32 ∷ 50 ∷ 41 ∷ 10 ∷ []
@@ -36,6 +42,6 @@ unfolding stepLine restLine drawLine drawForm drawNumbers digits digitsBy
 rested = refl
 
 -- `(refused 15 16)`
-refused-event : answerLine 15 (refused 16) ≡ 40 ∷ 114 ∷ 101 ∷ 102 ∷ 117 ∷ 115 ∷ 101 ∷ 100 ∷ 32 ∷ 49 ∷ 53 ∷ 32 ∷ 49 ∷ 54 ∷ 41 ∷ 10 ∷ []
+refused-event : answerLine 15 (refused 16) 0 ≡ 40 ∷ 114 ∷ 101 ∷ 102 ∷ 117 ∷ 115 ∷ 101 ∷ 100 ∷ 32 ∷ 49 ∷ 53 ∷ 32 ∷ 49 ∷ 54 ∷ 41 ∷ 10 ∷ []
 unfolding answerLine refusedLine drawLine drawForm drawNumbers digits digitsBy
 refused-event = refl

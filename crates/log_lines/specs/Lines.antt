@@ -14,9 +14,9 @@ grant-word = 40 ∷ 103 ∷ 114 ∷ 97 ∷ 110 ∷ 116 ∷ []
 abbrev pub rest-word : List ℕ
 rest-word = 40 ∷ 114 ∷ 101 ∷ 115 ∷ 116 ∷ []
 
--- `(grant s k class end moves)`, with class 1 normal and 2 high
-unfoldable pub grantLine : ℕ → ℕ → ℕ → ℕ → ℕ → List ℕ
-grantLine s k class end moves = drawLine grant-word (s ∷ k ∷ class ∷ end ∷ moves ∷ [])
+-- `(grant s k class end moves wait)`, with class 1 normal and 2 high
+unfoldable pub grantLine : ℕ → ℕ → ℕ → ℕ → ℕ → ℕ → List ℕ
+grantLine s k class end moves wait = drawLine grant-word (s ∷ k ∷ class ∷ end ∷ moves ∷ wait ∷ [])
 
 -- `(rest s moves)`
 unfoldable pub restLine : ℕ → ℕ → List ℕ
@@ -24,7 +24,7 @@ restLine s moves = drawLine rest-word (s ∷ moves ∷ [])
 
 -- the line of a step's answer; the others have none
 unfoldable pub stepLine : Step → List ℕ
-stepLine (Grant s k class end moves) = grantLine s k class end moves
+stepLine (Grant s k class end moves wait) = grantLine s k class end moves wait
 stepLine (Rest s moves) = restLine s moves
 stepLine Quiet = []
 stepLine (Refused n) = []
@@ -33,10 +33,10 @@ abbrev pub classNumber : Class → ℕ
 classNumber normal = 1
 classNumber high = 2
 
--- the line of a call's answer, in the words of `rules`: a refusal names the line of its event
-unfoldable pub answerLine : ℕ → Answer → List ℕ
-answerLine line taken = []
-answerLine line (refused n) = refusedLine line n
-answerLine line (grant s k c end moves) = grantLine s k (classNumber c) end moves
-answerLine line (rest s moves) = restLine s moves
-answerLine line quiet = []
+-- the line of a call's answer and its wait, in the words of `rules`: a refusal names the line of its event, and only a grant its wait
+unfoldable pub answerLine : ℕ → Answer → ℕ → List ℕ
+answerLine line taken wait = []
+answerLine line (refused n) wait = refusedLine line n
+answerLine line (grant s k c end moves) wait = grantLine s k (classNumber c) end moves wait
+answerLine line (rest s moves) wait = restLine s moves
+answerLine line quiet wait = []

@@ -94,8 +94,9 @@ pub fn step_line(step: Step, write: bool, buffer: &mut [u8], at: usize) -> Put
             class,
             end,
             moves,
+            wait,
         } => {
-            let numbers = [time, node as u64, class as u64, end, moves];
+            let numbers = [time, node as u64, class as u64, end, moves, wait];
             writer::put_form(write, buffer, at, b"(grant", &numbers)
         }
         Step::Rest { time, moves } => {

@@ -1,15 +1,15 @@
 -- How long the lines of the log are at most, each with its LF, and how long an event's line is at least.
-use Prim.Native.Nat.{ℕ, _+_, _≤_, _<_, _^_}
+use Prim.Native.Nat.{ℕ, zero, suc, _+_, _≤_, _<_, _^_}
 use mathlib.Core.Path.{_≡_, refl}
 use mathlib.Core.Bool.{Bool, true, false}
 use mathlib.Core.List.{List, [], _∷_, _++_}
 use mathlib.Core.Option.{Option, none, some}
 use native.Mathlib.Omega.{arith}
-use lib.ListN.{length, drop, length-append}
+use lib.ListN.{length, drop, length-append, length-drop}
 use Rattle.rules.specs.Call.{Class, normal, high, Call}
 use Rattle.text.specs.Number.{digits}
-use Rattle.text.specs.Word.{startsWith}
-use Rattle.text.specs.Form.{drawNumbers, drawForm, readBehind, readForm, formOf}
+use Rattle.text.specs.Word.{startsWith, isWord}
+use Rattle.text.specs.Form.{drawNumbers, drawForm, readClose, readNumbers, readBehind, readForm, formOf}
 use Rattle.text.proofs.Digits.{digits-length}
 use Rattle.text.proofs.Words.{starts-length}
 use Rattle.writer.specs.Write.{drawLine}
@@ -39,18 +39,20 @@ class-length : (c : Class) → length (digits (classNumber c)) ≤ 1
 class-length normal = digits-length 0 1 (omega arith)
 class-length high = digits-length 0 2 (omega arith)
 
-pub grant-length : (s k : ℕ) (c : Class) (end moves : ℕ) → s < 10 ^ 15 → k < 1000 → end < 10 ^ 16 → moves < 100
-    → length (grantLine s k (classNumber c) end moves) ≤ 50
+-- no wait is longer than its grant's time
+pub grant-length : (s k : ℕ) (c : Class) (end moves wait : ℕ) → s < 10 ^ 15 → k < 1000 → end < 10 ^ 16 → moves < 100 → wait ≤ s
+    → length (grantLine s k (classNumber c) end moves wait) ≤ 66
 unfolding grantLine spaced
-grant-length s k c end moves a b d e =
+grant-length s k c end moves wait a b d e w =
     omega (
       arith,
-      line-length grant-word (s ∷ k ∷ classNumber c ∷ end ∷ moves ∷ []),
+      line-length grant-word (s ∷ k ∷ classNumber c ∷ end ∷ moves ∷ wait ∷ []),
       digits-length 14 s a,
       digits-length 2 k (omega arith),
       class-length c,
       digits-length 15 end d,
       digits-length 1 moves (omega arith),
+      digits-length 14 wait (omega arith),
     )
 
 pub rest-length : (s moves : ℕ) → s < 10 ^ 15 → moves < 100 → length (restLine s moves) ≤ 26
@@ -87,10 +89,10 @@ nodes-length nodes hubs a b =
       digits-length 1 hubs (omega arith),
     )
 
--- a line that is a call starts with its word, so it has at least 4 bytes
+-- a line that is a call starts with its word and has more bytes behind it, so it has at least 5
 abbrev pub Long : List ℕ → Option Call → Type 0
 Long l none = Unit {0}
-Long l (some call) = 4 ≤ length l
+Long l (some call) = 5 ≤ length l
 
 module _ (l : List ℕ) where
   form-long : (word : List ℕ) (count : ℕ) (event : ℕ → ℕ → ℕ → ℕ → Event) (otherwise : Said) → 4 ≤ length word
@@ -98,12 +100,18 @@ module _ (l : List ℕ) where
   unfolding readForm
   form-long word count event otherwise w other = go (startsWith word l) refl
     where
-      by-numbers : 4 ≤ length l → (o : Option (List ℕ)) → Long l (callOn (orElse (formOf o) event otherwise))
+      by-numbers : 5 ≤ length l → (o : Option (List ℕ)) → Long l (callOn (orElse (formOf o) event otherwise))
       by-numbers h none = unfold formOf in other
       by-numbers h (some ns) = unfold formOf in h
 
+      -- a word alone is no form
+      behind : (s : List ℕ) (n : ℕ) → length word + length s ≤ length l → Long l (callOn (orElse (formOf (readNumbers n s)) event otherwise))
+      behind [] zero h = unfold readNumbers readClose isWord formOf in other
+      behind [] (suc n) h = unfold readNumbers formOf in other
+      behind (b ∷ s) n h = by-numbers (omega arith) (readNumbers n (b ∷ s))
+
       go : (b : Bool) → startsWith word l ≡ b → Long l (callOn (orElse (formOf (readBehind b count (drop (length word) l))) event otherwise))
-      go true e = by-numbers (omega (arith, starts-length word l e)) (readBehind true count (drop (length word) l))
+      go true e = unfold readBehind in behind (drop (length word) l) count (omega (arith, starts-length word l e, length-drop (length word) l))
       go false e = unfold readBehind formOf in other
 
   pub call-long : Long l (callOn (eventOf l))

@@ -7,7 +7,8 @@ use native.Mathlib.Omega.{arith}
 use lib.ListN.{length, drop, length-append, length-drop, length-take}
 use Rattle.rules.specs.Choice.{sum}
 use Rattle.rules.specs.Control.{control}
-use Rattle.rules.specs.Run.{made, freshHub}
+use Rattle.rules.specs.Run.{made}
+use Rattle.rules.specs.Waits.{freshWatched}
 use Rattle.text.specs.Line.{lines, drawLines}
 use Rattle.text.proofs.Lines.{draw-lines}
 use Rattle.plan.specs.declared.Answer.{Answer}
@@ -40,13 +41,13 @@ module _ (text : List ℕ) (short : length text ≤ limit) (nodes hubs at line :
       let a = placed text nodes hubs at line t in
       let rest : length (drawLines (lines (drop at text))) ≡ length (drop at text) = ap length (draw-lines (drop at text)) in
       let cut = length-drop at text in
-      let events = eventsLog p line (freshHub p (control p)) (lines (drop at text)) in
+      let events = eventsLog p line (freshWatched p (control p)) (lines (drop at text)) in
       omega (
         arith,
         length-append (nodesLine nodes hubs) (flatten events),
         nodes-length nodes hubs (omega (arith, k .nodes-told, k .plan .few-nodes)) (omega (arith, k .hubs-told, k .plan .few-hubs)),
         nothing-stands (p .nodes),
-        events-paid p (k .plan) (lines (drop at text)) line (omega arith) [],
+        events-paid p (k .plan) (lines (drop at text)) line (omega arith) [] (λ k. 0),
       )
 
 handed-short : (text : List ℕ) → length (handed text) ≤ limit

@@ -1,21 +1,20 @@
--- No event of any text meets 12. Every hub of the log is reached by a list of calls, so behind the steps before an event nothing is
--- due before its time (NoStepLeft); row 12 then lets it pass, and a refusal has one of the other numbers.
-use Prim.Native.Nat.{ℕ, zero, suc}
+-- No event of any text meets 12. Every hub of the log is reached by a list of calls (Reached), so behind the steps before an event
+-- nothing is due before its time (NoStepLeft); row 12 then lets it pass, and a refusal has one of the other numbers.
+use Prim.Native.Nat.{ℕ}
 use mathlib.Core.Path.{_≡_, refl, sym, ap, subst}
-use mathlib.Core.Bool.{Bool, true, false}
+use mathlib.Core.Bool.{true, false}
 use mathlib.Core.List.{List, [], _∷_, _++_, map, flatten}
 use mathlib.Core.Option.{Option, none, some}
 use native.Mathlib.Omega.{arith}
 use lib.ListN.{drop}
-use Rattle.rules.specs.Choice.{if_then_else_}
 use Rattle.rules.specs.Plan.{Plan}
 use Rattle.rules.specs.Drawn.{Drawn}
-use Rattle.rules.specs.Call.{Call, ask, off, reserve, until, step, time, Answer, taken, refused, grant, rest, quiet}
+use Rattle.rules.specs.Call.{Call, ask, off, reserve, until, step, time, quiet}
 use Rattle.rules.specs.Core.{Core, due, before}
 use Rattle.rules.specs.Rows.{Row, refuse, firstRow, rows, row11, row12, row13, row14, row15, row15r, row16, row17}
 use Rattle.rules.specs.Machine.{Hub, Outcome, perform}
 use Rattle.rules.specs.Control.{Control, control}
-use Rattle.rules.specs.Run.{freshHub, made}
+use Rattle.rules.specs.Waits.{Watched, freshWatched}
 use Rattle.rules.proofs.Laws.Passes.{Which, which, yes′, no′, true-false}
 use Rattle.rules.proofs.Core.RowsPassed.{passed12}
 use Rattle.rules.proofs.Core.RefusalNumbers.{All, first-has}
@@ -31,11 +30,13 @@ use Rattle.plan.specs.Reading.{reading}
 use Rattle.plan_theory.proofs.TakenPlan.{taken-plan}
 use Rattle.log_lines.specs.Handed.{handed}
 use Rattle.log_lines.specs.FirstLine.{refusedLine, nodesLine, firstLine}
-use Rattle.log_lines.specs.Lines.{classNumber, answerLine}
+use Rattle.log_lines.specs.Lines.{classNumber}
 use Rattle.event_lines.specs.Event.{eventOf, callOn}
-use Rattle.log_spec.specs.Log.{Logged, eventLine, budget, afterStep, steps, stepsBefore, eventLog, eventsLog, planLog, logOf}
+use Rattle.log_spec.specs.Log.{eventLine, budget, steps, stepsBefore, eventLog, eventsLog, planLog, logOf}
 use Rattle.log_spec.specs.NeverTwelve.{Act, act, acts, writes, NothingDue, planActs, actsOf, planRead, eventLines, Every, eventNumber, NeverTwelve}
+use Rattle.log_spec.specs.LogWaits.{StepsTold, no-more, granted, rested}
 use Rattle.log_spec.proofs.NoStepLeft.{no-step-left}
+use Rattle.log_spec.proofs.Reached.{Reached, hub-there, fresh-reached, steps-told, before-told, event-reached}
 use Rattle.log_spec.proofs.RefusedPlan.{Named, answer-named}
 use Rattle.log_spec.proofs.RefusedLines.{same-refusal, grant-no-refusal, rest-no-refusal, nodes-no-refusal}
 
@@ -61,53 +62,12 @@ refusal-told : (number n : ℕ) → eventNumber n ≡ true → Told (refusedLine
 refusal-told number n h l m e = subst (λ (x : ℕ). eventNumber x ≡ true) (same-refusal number n l m e .1) h
 
 module _ (p : Plan) where
-  -- the hubs that a list of calls reaches
-  record Reached (h : Hub Control) : Type 0 where
-    calls : List Call
-    there : made p (control p) calls .hub ≡ h
-
-  reach : (call : Call) (h : Hub Control) → Reached h → Reached (perform p (control p) call h .hub)
-  unfolding made
-  reach call h r = record { calls = call ∷ r .calls; there = ap (λ (x : Hub Control). perform p (control p) call x .hub) (r .there) }
-
-  fresh-reached : Reached (freshHub p (control p))
-  unfolding made
-  fresh-reached = record { calls = []; there = refl }
-
-  -- what steps leave and write: a hub that is reached, and no refusal
-  record Stepped (log : Logged) : Type 0 where
-    reached : Reached (log .hub)
-    told : Every Told (log .written)
-
-  abbrev StepsGood : ℕ → ℕ → Type 0
-  StepsGood t n = (h : Hub Control) → Reached h → Stepped (steps p n t h)
-
-  after-step : (t n : ℕ) → StepsGood t n → (a : Answer) (h : Hub Control) → Reached h → Stepped (afterStep p (steps p n t) a h)
-  unfolding answerLine
-  after-step t n again taken h r = record { reached = r; told = tt }
-  after-step t n again (refused m) h r = record { reached = r; told = tt }
-  after-step t n again (grant s k c end moves) h r =
-      let more = again h r in
-      record { reached = more .reached; told = (λ l m e. absurd (grant-no-refusal s k (classNumber c) end moves l m e), more .told) }
-  after-step t n again (rest s moves) h r =
-      let more = again h r in
-      record { reached = more .reached; told = (λ l m e. absurd (rest-no-refusal s moves l m e), more .told) }
-  after-step t n again quiet h r = record { reached = r; told = tt }
-
-  steps-good : (t n : ℕ) → StepsGood t n
-  unfolding steps
-  steps-good t zero h r = record { reached = r; told = tt }
-  steps-good t (suc n) h r =
-      let o = perform p (control p) (step t) h in
-      after-step t n (steps-good t n) (o .answer) (o .hub) (reach (step t) h r)
-
-  before-good : (t : ℕ) (h : Hub Control) → Reached h → Stepped (stepsBefore p t h)
-  unfolding stepsBefore
-  before-good t h r = go (row11 (h .core) t .applies)
-    where
-      go : (b : Bool) → Stepped (if b then record { written = []; hub = h } else steps p (budget p (h .core)) t h)
-      go true = record { reached = r; told = tt }
-      go false = steps-good t (budget p (h .core)) h r
+  -- the lines of steps are no refusals
+  steps-no-refusal : {t : ℕ} {calls after : List Call} {ls : List (List ℕ)} → StepsTold p t calls ls after → Every Told ls
+  steps-no-refusal (no-more calls) = tt
+  steps-no-refusal (granted s k c end moves wait e w more) =
+      (λ l m x. absurd (grant-no-refusal s k (classNumber c) end moves wait l m x), steps-no-refusal more)
+  steps-no-refusal (rested s moves e more) = (λ l m x. absurd (rest-no-refusal s moves l m x), steps-no-refusal more)
 
   -- the numbers of refusals, where nothing is due before the time of a call that row 11 allows
   abbrev Passes12 : Core → ℕ → Type 0
@@ -152,66 +112,63 @@ module _ (p : Plan) where
 
   module _ (drawn : Drawn p) where
     -- where row 11 allows the time, one more step behind those before it is quiet (NoStepLeft), so nothing is due before it
-    quiet-there : (t : ℕ) (h : Hub Control) → Reached h → row11 (h .core) t .applies ≡ false
-        → perform p (control p) (step t) (steps p (budget p (h .core)) t h .hub) .answer ≡ quiet
-    quiet-there t h r =
+    quiet-there : (t : ℕ) (w : Watched Control) → Reached p w → row11 (w .hub .core) t .applies ≡ false
+        → perform p (control p) (step t) (steps p (budget p (w .hub .core)) t w .left .hub) .answer ≡ quiet
+    quiet-there t w r =
         subst
         (λ (x : Hub Control).
-        row11 (x .core) t .applies ≡ false → perform p (control p) (step t) (steps p (budget p (x .core)) t x .hub) .answer ≡ quiet)
-        (r .there) (no-step-left p drawn (r .calls) t)
+        row11 (x .core) t .applies ≡ false
+        → perform p (control p) (step t) (steps p (budget p (x .core)) t (record { hub = x; times = w .times }) .left .hub) .answer ≡ quiet)
+        (hub-there p w r) (no-step-left p drawn (r .calls) (w .times) t)
 
-    quiet-free : (t : ℕ) (h : Hub Control) → Reached h → perform p (control p) (step t) h .answer ≡ quiet → before (due p (h .core)) t ≡ false
-    quiet-free t h r =
-        subst (λ (x : Hub Control). perform p (control p) (step t) x .answer ≡ quiet → before (due p (x .core)) t ≡ false) (r .there)
+    quiet-free : (t : ℕ) (w : Watched Control) → Reached p w → perform p (control p) (step t) (w .hub) .answer ≡ quiet → before (due p (w .hub .core)) t ≡ false
+    quiet-free t w r =
+        subst (λ (x : Hub Control). perform p (control p) (step t) x .answer ≡ quiet → before (due p (x .core)) t ≡ false) (hub-there p w r)
         (no-time-lost p (drawn .figures) (control p) (control-follows p drawn) (drawn .some-node) (r .calls) .quiet-only t)
 
-    before-free : (t : ℕ) (h : Hub Control) → Reached h → Passes12 (stepsBefore p t h .hub .core) t
+    before-free : (t : ℕ) (w : Watched Control) → Reached p w → Passes12 (stepsBefore p t w .left .hub .core) t
     unfolding stepsBefore
-    before-free t h r = go (which (row11 (h .core) t .applies))
+    before-free t w r = go (which (row11 (w .hub .core) t .applies))
       where
-        go : Which (row11 (h .core) t .applies) → Passes12 (stepsBefore p t h .hub .core) t
+        go : Which (row11 (w .hub .core) t .applies) → Passes12 (stepsBefore p t w .left .hub .core) t
         go (yes′ late) = rw late (λ allowed. absurd (true-false late allowed))
-        go (no′ allowed) = rw allowed (λ still. quiet-free t _ (steps-good t (budget p (h .core)) h r .reached) (quiet-there t h r allowed))
+        go (no′ allowed) =
+            rw allowed (λ still. quiet-free t _ (steps-told p drawn t (budget p (w .hub .core)) w r .reached) (quiet-there t w r allowed))
 
-    act-shown : (number : ℕ) (call : Option Call) (h : Hub Control) → Reached h → Shown (act p number call h)
+    act-shown : (number : ℕ) (call : Option Call) (w : Watched Control) → Reached p w → Shown (act p number call w)
     unfolding act
-    act-shown number none h r = record { free = tt; told = (refusal-told number 1 refl, tt) }
-    act-shown number (some call) h r =
-        let before = stepsBefore p (time call) h in
-        let free = before-free (time call) h r in
+    act-shown number none w r = record { free = tt; told = (refusal-told number 1 refl, tt) }
+    act-shown number (some call) w r =
+        let before = stepsBefore p (time call) w in
+        let free = before-free (time call) w r in
         record {
-          free = λ allowed. passed12 p _ _ .1 (λ d e. omega (arith, passed12 p (before .hub .core) (time call) .0 (free allowed) d e));
+          free = λ allowed. passed12 p _ _ .1 (λ d e. omega (arith, passed12 p (before .left .hub .core) (time call) .0 (free allowed) d e));
           told =
-              every-append Told (before .written) (eventLine number (perform p (control p) call (before .hub) .answer))
-              (before-good (time call) h r .told) (answer-told number call (before .hub) free);
+              every-append Told (before .written) (eventLine number (perform p (control p) call (before .left .hub) .answer))
+              (steps-no-refusal (before-told p drawn (time call) w r .told)) (answer-told number call (before .left .hub) free);
         }
 
-    event-reached : (number : ℕ) (call : Option Call) (h : Hub Control) → Reached h → Reached (eventLog p number call h .hub)
-    unfolding eventLog
-    event-reached number none h r = r
-    event-reached number (some call) h r = reach call (stepsBefore p (time call) h .hub) (before-good (time call) h r .reached)
-
-    acts-shown : (ls : Lines) (number : ℕ) (h : Hub Control) → Reached h → Every Shown (acts p number h ls)
+    acts-shown : (ls : Lines) (number : ℕ) (w : Watched Control) → Reached p w → Every Shown (acts p number w ls)
     unfolding acts
-    acts-shown nothing number h r = tt
-    acts-shown (unended l) number h r = (record { free = tt; told = (refusal-told number 1 refl, tt) }, tt)
-    acts-shown (ended l more) number h r =
+    acts-shown nothing number w r = tt
+    acts-shown (unended l) number w r = (record { free = tt; told = (refusal-told number 1 refl, tt) }, tt)
+    acts-shown (ended l more) number w r =
         let call = callOn (eventOf l) in
-        (act-shown number call h r, acts-shown more (nextNumber number) (eventLog p number call h .hub) (event-reached number call h r))
+        (act-shown number call w r, acts-shown more (nextNumber number) (eventLog p number call w .left) (event-reached p drawn number call w r))
 
   -- the lines of the log are those of the acts
-  act-written : (number : ℕ) (call : Option Call) (h : Hub Control) → eventLog p number call h .written ≡ writes p (act p number call h)
+  act-written : (number : ℕ) (call : Option Call) (w : Watched Control) → eventLog p number call w .written ≡ writes p (act p number call w)
   unfolding eventLog act
-  act-written number none h = refl
-  act-written number (some call) h = refl
+  act-written number none w = refl
+  act-written number (some call) w = refl
 
-  acts-written : (ls : Lines) (number : ℕ) (h : Hub Control) → eventsLog p number h ls ≡ flatten (map (writes p) (acts p number h ls))
+  pub acts-written : (ls : Lines) (number : ℕ) (w : Watched Control) → eventsLog p number w ls ≡ flatten (map (writes p) (acts p number w ls))
   unfolding eventsLog acts flatten
-  acts-written nothing number h = refl
-  acts-written (unended l) number h = refl
-  acts-written (ended l more) number h =
+  acts-written nothing number w = refl
+  acts-written (unended l) number w = refl
+  acts-written (ended l more) number w =
       let call = callOn (eventOf l) in
-      rw (act-written number call h, acts-written more (nextNumber number) (eventLog p number call h .hub))
+      rw (act-written number call w, acts-written more (nextNumber number) (eventLog p number call w .left))
 
 -- a text, by the answer to its plan
 module _ (text : List ℕ) where
@@ -222,13 +179,13 @@ module _ (text : List ℕ) where
   unfolding planLog planActs firstLine flatten
   plan-written (Refused line number) = refl
   plan-written (Taken nodes hubs at line) =
-      ap (λ (x : List (List ℕ)). nodesLine nodes hubs ∷ x) (acts-written p (lines (drop at text)) line (freshHub p (control p)))
+      ap (λ (x : List (List ℕ)). nodesLine nodes hubs ∷ x) (acts-written p (lines (drop at text)) line (freshWatched p (control p)))
 
   plan-shown : (a : plan.Answer) → reading text .answer ≡ a → Every (Shown p) (planActs text a (reading text .tables))
   unfolding planActs
   plan-shown (Refused line number) e = tt
   plan-shown (Taken nodes hubs at line) e =
-      acts-shown p (taken-plan text nodes hubs at line e .plan) (lines (drop at text)) line (freshHub p (control p)) (fresh-reached p)
+      acts-shown p (taken-plan text nodes hubs at line e .plan) (lines (drop at text)) line (freshWatched p (control p)) (fresh-reached p)
 
 -- a line that isn't `(refused l 12)`
 abbrev NotTwelve : List ℕ → Type 0

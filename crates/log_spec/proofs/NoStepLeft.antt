@@ -16,6 +16,7 @@ use Rattle.rules.specs.Rows.{row11, accept, refuse}
 use Rattle.rules.specs.Machine.{Hub, Outcome, perform}
 use Rattle.rules.specs.Control.{Control, control}
 use Rattle.rules.specs.Run.{made}
+use Rattle.rules.specs.Waits.{Watched, waitOf, watch}
 use Rattle.rules.proofs.Laws.Passes.{Some, any-some, or-cases, and-both, sum-same, sum-put}
 use Rattle.rules.proofs.Core.RowsPassed.{InTime, passed11}
 use Rattle.rules.proofs.Core.Requests.{of-class, counts-stands}
@@ -28,7 +29,7 @@ use Rattle.rules.proofs.Core.AlwaysSound.{good, turn-counts}
 use Rattle.rules.proofs.Promised.NoTimeLost.{no-time-lost}
 use Rattle.rules.proofs.Control.FollowsFlat.{control-follows}
 use Rattle.rules.proofs.Laws.Clash.{clash}
-use Rattle.log_spec.specs.Log.{stands, runs, budget, afterStep, steps}
+use Rattle.log_spec.specs.Log.{Logged, stands, runs, budget, afterStep, steps}
 
 -- how many requests stand
 abbrev pub standings : Plan → Core → ℕ
@@ -93,6 +94,12 @@ module _ (p : Plan) (s : Core) (spent : budget p s ≤ 0) where
       go (one-held l clear some) = absurd (held-not (any-some (p .nodes) (held s) some))
       go (no-instant l clear free) = refl
 
+-- what follows a step of watched hub w by its outcome o, which is that of `perform`: n steps more, where it is a grant or a rest
+abbrev pub behind : Plan → ℕ → ℕ → Watched Control → Outcome Control → Logged
+behind p n t w o =
+    afterStep p (steps p n t) (o .answer) (waitOf p (w .hub .core) (o .answer) (w .times))
+    (record { hub = o .hub; times = watch p (w .hub .core) (step t) (o .answer) (w .times) })
+
 module _ (p : Plan) (drawn : Drawn p) (t : ℕ) where
   -- the hub that a list of calls reaches
   abbrev reached : List Call → Hub Control
@@ -104,25 +111,32 @@ module _ (p : Plan) (drawn : Drawn p) (t : ℕ) where
 
   -- a budget of at most n is enough
   abbrev Enough : ℕ → Type 0
-  Enough n = (calls : List Call) → InTime (reached calls .core) t → budget p (reached calls .core) ≤ n → Quiet (steps p n t (reached calls) .hub)
+  Enough n =
+      (calls : List Call) (times : ℕ → ℕ) → InTime (reached calls .core) t → budget p (reached calls .core) ≤ n
+      → Quiet (steps p n t (record { hub = reached calls; times = times }) .left .hub)
 
   spent-enough : Enough 0
   unfolding steps
-  spent-enough calls i spent =
+  spent-enough calls times i spent =
       no-time-lost p (drawn .figures) (control p) (control-follows p drawn) (drawn .some-node) calls .quiet-there t (i .late) (i .soon)
       (not-due p (reached calls .core) spent t)
 
-  module _ (n : ℕ) (again : Enough n) (calls : List Call) (i : InTime (reached calls .core) t) (few : budget p (reached calls .core) ≤ suc n) where
+  module _ (n : ℕ) (again : Enough n) (calls : List Call) (times : ℕ → ℕ) (i : InTime (reached calls .core) t) (few : budget p (reached calls .core) ≤ suc n) where
     abbrev here : Hub Control
     here = reached calls
 
     -- the step led to hub g, which has less left
-    onward : (g : Hub Control) → perform p (control p) (step t) here .hub ≡ g → InTime (g .core) t → budget p (g .core) ≤ n → Quiet (steps p n t g .hub)
+    onward : (g : Hub Control) → perform p (control p) (step t) here .hub ≡ g → (later : ℕ → ℕ) → InTime (g .core) t → budget p (g .core) ≤ n
+        → Quiet (steps p n t (record { hub = g; times = later }) .left .hub)
     unfolding made
-    onward g e = subst (λ (x : Hub Control). InTime (x .core) t → budget p (x .core) ≤ n → Quiet (steps p n t x .hub)) e (again (step t ∷ calls))
+    onward g e later =
+        subst
+        (λ (x : Hub Control).
+        InTime (x .core) t → budget p (x .core) ≤ n → Quiet (steps p n t (record { hub = x; times = later }) .left .hub))
+        e (again (step t ∷ calls) later)
 
     by-course : {o : Outcome Control} → Course p (control p) here (step t) o → perform p (control p) (step t) here ≡ o
-        → Quiet (afterStep p (steps p n t) (o .answer) (o .hub) .hub)
+        → Quiet (behind p n t (record { hub = here; times = times }) o .left .hub)
     by-course (refusal c m a) q = let r : accept ≡ refuse m = rw (passed11 (here .core) t .1 i) at a in clash (cc)
     by-course (quietly u j a) q = ap (λ (o : Outcome Control). o .answer) q
     by-course (course.granting u d c j a l b) q =
@@ -133,15 +147,15 @@ module _ (p : Plan) (drawn : Drawn p) (t : ℕ) where
         (turn-counts p (drawn .figures) (control p) (control-follows p drawn) here ok d c b) in
         let k = control p .choose c (countsIn c s) (here .turn) .node in
         let stood = counts-stands c s k (turn .holds) in
-        onward _ (ap (λ (o : Outcome Control). o .hub) q) (record { late = omega (arith, advance-clock p d (here .core)); soon = i .soon })
+        onward _ (ap (λ (o : Outcome Control). o .hub) q) _ (record { late = omega (arith, advance-clock p d (here .core)); soon = i .soon })
         (omega (arith, one-fewer p s k (turn .within) c (stood .0) (stood .1), advance-stands p d (here .core)))
     by-course (course.resting u d j a l b) q =
         let lost = no-time-lost p (drawn .figures) (control p) (control-follows p drawn) (drawn .some-node) calls in
         let ran : runs (here .core .line) ≡ 1 = ap runs (lost .rest-only t d _ (ap (λ (o : Outcome Control). o .answer) q) .0) in
-        onward _ (ap (λ (o : Outcome Control). o .hub) q) (record { late = omega (arith, advance-clock p d (here .core)); soon = i .soon })
+        onward _ (ap (λ (o : Outcome Control). o .hub) q) _ (record { late = omega (arith, advance-clock p d (here .core)); soon = i .soon })
         (omega (arith, advance-stands p d (here .core)))
 
-    one-more-enough : Quiet (steps p (suc n) t here .hub)
+    one-more-enough : Quiet (steps p (suc n) t (record { hub = here; times = times }) .left .hub)
     unfolding steps
     one-more-enough = by-course (course.course p (control p) here (step t)) refl
 
@@ -149,9 +163,12 @@ module _ (p : Plan) (drawn : Drawn p) (t : ℕ) where
   enough zero = spent-enough
   enough (suc n) = one-more-enough n (enough n)
 
--- no step is left out: from every hub that a list of calls reaches, behind as many steps as the budget allows one more is quiet
-pub no-step-left : (p : Plan) → Drawn p → (calls : List Call) (t : ℕ) → row11 (made p (control p) calls .hub .core) t .applies ≡ false
-    → perform p (control p) (step t) (steps p (budget p (made p (control p) calls .hub .core)) t (made p (control p) calls .hub) .hub) .answer ≡ quiet
-no-step-left p drawn calls t e =
+-- no step is left out: from every hub that a list of calls reaches, whatever is
+-- recorded of it, behind as many steps as the budget allows one more is quiet
+pub no-step-left : (p : Plan) → Drawn p → (calls : List Call) (times : ℕ → ℕ) (t : ℕ) → row11 (made p (control p) calls .hub .core) t .applies ≡ false
+    → perform p (control p) (step t)
+    (steps p (budget p (made p (control p) calls .hub .core)) t (record { hub = made p (control p) calls .hub; times = times }) .left .hub) .answer
+    ≡ quiet
+no-step-left p drawn calls times t e =
     let s = made p (control p) calls .hub .core in
-    enough p drawn t (budget p s) calls (passed11 s t .0 e) (omega arith)
+    enough p drawn t (budget p s) calls times (passed11 s t .0 e) (omega arith)

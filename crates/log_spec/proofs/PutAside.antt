@@ -1,5 +1,5 @@
--- Bytes put aside for lines to come: 76 for each standing request, which are 50 of its grant and 26 of the rest that may follow,
--- and 26 while the line is busy. A grant and a rest are paid for by what is aside, and only a taken event puts 76 more there.
+-- Bytes put aside for lines to come: 92 for each standing request, which are 66 of its grant and 26 of the rest that may follow,
+-- and 26 while the line is busy. A grant and a rest are paid for by what is aside, and only a taken event puts 92 more there.
 use Prim.Native.Nat.{ℕ, _+_, _*_, _≤_, _<_}
 use mathlib.Core.Path.{_≡_, refl, ap}
 use mathlib.Core.List.{List, [], flatten}
@@ -35,10 +35,10 @@ use Rattle.log_spec.proofs.LineLengths.{grant-length, rest-length, refu
 
 module _ (p : Plan) where
   abbrev pub aside : Core → ℕ
-  aside s = 76 * standings p s + 26 * runs (s .line)
+  aside s = 92 * standings p s + 26 * runs (s .line)
 
   -- what an accepted event adds
-  event-aside : (s : Core) {call : Call} → Acceptable p s call → aside (change call (advance p (time call) s)) ≤ aside s + 76
+  event-aside : (s : Core) {call : Call} → Acceptable p s call → aside (change call (advance p (time call) s)) ≤ aside s + 92
   event-aside s (asks c t k b a) =
       omega (arith, put-stands p (advance p t s) k (a .node) (standing (putUp (advance p t s .force k) c) b), advance-stands p t s, ap runs (advance-line p t s))
   event-aside s (leaves t k o w) = omega (arith, put-stands p (advance p t s) k w none, advance-stands p t s, ap runs (advance-line p t s))
@@ -58,15 +58,15 @@ module _ (p : Plan) (drawn : Drawn p) (calls : List Call) where
   fine = good p (drawn .figures) (control p) (control-follows p drawn) (drawn .some-node) calls
 
   module _ (t d : ℕ) (i : InTime (here .core) t) (e : due p (here .core) ≡ at d) (l : d < t) where
-    -- a grant with its line takes no more than was aside: s is below 10^15, k
-    -- at most 256, end at most s + the longest packet + 50,000, moves at most 4 × 4
+    -- a grant with its line takes no more than was aside: s is below 10^15, k at most
+    -- 256, end at most s + the longest packet + 50,000, moves at most 4 × 4, wait at most s
     module _ (c : Class) (n : sought p (come d) ≡ class c) where
       abbrev granted : Outcome Control
       granted = grantTo p (control p) d c (come d) (control p .choose c (countsIn c (come d)) (here .turn))
 
-      pub grant-pays : length (answerLine 0 (granted .answer)) + aside p (granted .hub .core) ≤ aside p (here .core)
+      pub grant-pays : (wait : ℕ) → wait ≤ d → length (answerLine 0 (granted .answer) wait) + aside p (granted .hub .core) ≤ aside p (here .core)
       unfolding answerLine
-      grant-pays =
+      grant-pays wait w =
           let f = countsIn c (come d) in
           let some = turn-counts p (drawn .figures) (control p) (control-follows p drawn) here fine d c n in
           let turn = node-counts p (control p) (control-follows p drawn) (here .turn) (fine .pointed) c f some in
@@ -77,11 +77,12 @@ module _ (p : Plan) (drawn : Drawn p) (calls : List Call) where
           let end : bitsOf (come d .request k) ≡ stood .0 = ap bitsOf (stood .1) in
           omega (
             arith,
-            grant-length d k c (d + bitsOf (come d .request k) + p .overhead) (control p .choose c f (here .turn) .moves)
+            grant-length d k c (d + bitsOf (come d .request k) + p .overhead) (control p .choose c f (here .turn) .moves) wait
                 (omega (arith, i .soon))
                 (omega (arith, turn .within .up, drawn .few-nodes))
                 (omega (arith, i .soon, drawn .figures .overhead-up, longest-up (p .framing)))
-                (omega (arith, levels-up p drawn)),
+                (omega (arith, levels-up p drawn))
+                w,
             one-fewer p (come d) k (turn .within) c (stood .0) (stood .1),
             advance-stands p d (here .core),
           )
@@ -90,10 +91,10 @@ module _ (p : Plan) (drawn : Drawn p) (calls : List Call) where
     abbrev moves : ℕ
     moves = control p .rested (here .turn) .moves
 
-    pub rest-pays : perform p (control p) (step t) here .answer ≡ rest d moves
-        → length (answerLine 0 (rest d moves)) + aside p (restful (come d)) ≤ aside p (here .core)
+    pub rest-pays : perform p (control p) (step t) here .answer ≡ rest d moves → (wait : ℕ)
+        → length (answerLine 0 (rest d moves) wait) + aside p (restful (come d)) ≤ aside p (here .core)
     unfolding answerLine
-    rest-pays q =
+    rest-pays q wait =
         let lost = no-time-lost p (drawn .figures) (control p) (control-follows p drawn) (drawn .some-node) calls in
         let ran : runs (here .core .line) ≡ 1 = ap runs (lost .rest-only t d moves q .0) in
         let few = control-costs p drawn .rests (here .turn) (fine .pointed .pointers) (fine .pointed .like) in
@@ -106,15 +107,15 @@ module _ (p : Plan) (drawn : Drawn p) (calls : List Call) where
   -- any call with the line that it has as an event: a refusal has one, and only a taken event puts bytes aside
   module _ (number : ℕ) (few : number < 100000) where
     by-course : {call : Call} {o : Outcome Control} → Course p (control p) here call o → perform p (control p) call here ≡ o
-        → length (flatten (eventLine number (o .answer))) + aside p (o .hub .core) ≤ aside p (here .core) + 76
+        → length (flatten (eventLine number (o .answer))) + aside p (o .hub .core) ≤ aside p (here .core) + 92
     unfolding flatten
     by-course (refusal call n e) q =
         omega (arith, length-append (refusedLine number n) [], refused-length number n few (omega (arith, row-number p (here .core) call n e .up)))
     by-course (event call e a) q = omega (arith, event-aside p (here .core) (acceptable p (here .core) e a))
     by-course (quietly t i n) q = omega arith
-    by-course (course.granting t d c i e l n) q = omega (arith, grant-pays t d i e l c n)
-    by-course (course.resting t d i e l n) q = omega (arith, rest-pays t d i e l (ap (λ (o : Outcome Control). o .answer) q))
+    by-course (course.granting t d c i e l n) q = omega (arith, grant-pays t d i e l c n 0 (omega arith))
+    by-course (course.resting t d i e l n) q = omega (arith, rest-pays t d i e l (ap (λ (o : Outcome Control). o .answer) q) 0)
 
     pub event-pays : (call : Call)
-        → length (flatten (eventLine number (perform p (control p) call here .answer))) + aside p (perform p (control p) call here .hub .core) ≤ aside p (here .core) + 76
+        → length (flatten (eventLine number (perform p (control p) call here .answer))) + aside p (perform p (control p) call here .hub .core) ≤ aside p (here .core) + 92
     event-pays call = by-course (course.course p (control p) here call) refl

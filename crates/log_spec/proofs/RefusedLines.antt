@@ -47,9 +47,9 @@ same-refusal l m k n e =
     (first .0, same-number 41 refl m n _ _ (first .1) .0)
 
 -- other words
-pub grant-no-refusal : (s k class end moves l n : ℕ) → grantLine s k class end moves ≡ refusedLine l n → ⊥
+pub grant-no-refusal : (s k class end moves wait l n : ℕ) → grantLine s k class end moves wait ≡ refusedLine l n → ⊥
 unfolding grantLine refusedLine drawLine drawForm
-grant-no-refusal s k class end moves l n e = let z : _≡_ {A = ℕ} 103 114 = ap (λ (x : List ℕ). getD x 1 0) e in omega arith
+grant-no-refusal s k class end moves wait l n e = let z : _≡_ {A = ℕ} 103 114 = ap (λ (x : List ℕ). getD x 1 0) e in omega arith
 
 pub rest-no-refusal : (s moves l n : ℕ) → restLine s moves ≡ refusedLine l n → ⊥
 unfolding restLine refusedLine drawLine drawForm

@@ -1,5 +1,5 @@
 -- Document 01's example under "The log", by computing: with the line `(strict)` its text has the nine lines that stand there, but that
--- the refused line is one further down. And its text without the line.
+-- the refused line is one further down and each grant names its wait (request 1 of document 02). And its text without the line.
 use Prim.Native.String.{String}
 use mathlib.Core.Path.{_≡_, refl}
 use mathlib.Core.List.{List, [], _∷_, _++_, flatten}
@@ -16,6 +16,7 @@ use Rattle.rules.specs.Choice.{any, sum, first}
 use Rattle.rules.specs.Core.{advance, countsIn, counts, held, due, sought}
 use Rattle.rules.specs.Control.{below, lowest, walk, led, nearest, chooseBy}
 use Rattle.rules.specs.Machine.{perform}
+use Rattle.rules.specs.Waits.{comeTo}
 use Rattle.log_lines.specs.Handed.{handed}
 use Rattle.log_lines.specs.FirstLine.{nodesHead, nodesLine, refusedLine}
 use Rattle.event_lines.specs.Event.{eventOf}
@@ -31,14 +32,14 @@ events01 =
 
 abbrev log01 : List String
 log01 =
-    "(nodes 4 hubs 2)" ∷ "(refused 16 16)" ∷ "(grant 0 1 1 13000 0)" ∷ "(grant 13000 4 1 20000 0)" ∷ "(rest 20000 0)"
-    ∷ "(grant 99000 2 1 112000 1)" ∷ "(grant 112000 3 2 117000 2)" ∷ "(grant 117000 1 1 119000 1)" ∷ "(rest 119000 0)" ∷ []
+    "(nodes 4 hubs 2)" ∷ "(refused 16 16)" ∷ "(grant 0 1 1 13000 0 0)" ∷ "(grant 13000 4 1 20000 0 13000)" ∷ "(rest 20000 0)"
+    ∷ "(grant 99000 2 1 112000 1 0)" ∷ "(grant 112000 3 2 117000 2 12000)" ∷ "(grant 117000 1 1 119000 1 17000)" ∷ "(rest 119000 0)" ∷ []
 
 -- without `(strict)` nothing is refused, and node 3's first packet is sent as a normal one
 abbrev log01-default : List String
 log01-default =
-    "(nodes 4 hubs 2)" ∷ "(grant 0 1 1 13000 0)" ∷ "(grant 13000 3 1 18000 1)" ∷ "(grant 18000 4 1 25000 1)" ∷ "(rest 25000 0)"
-    ∷ "(grant 99000 2 1 112000 1)" ∷ "(grant 112000 3 2 117000 2)" ∷ "(grant 117000 1 1 119000 1)" ∷ "(rest 119000 0)" ∷ []
+    "(nodes 4 hubs 2)" ∷ "(grant 0 1 1 13000 0 0)" ∷ "(grant 13000 3 1 18000 1 13000)" ∷ "(grant 18000 4 1 25000 1 18000)" ∷ "(rest 25000 0)"
+    ∷ "(grant 99000 2 1 112000 1 0)" ∷ "(grant 112000 3 2 117000 2 12000)" ∷ "(grant 117000 1 1 119000 1 17000)" ∷ "(rest 119000 0)" ∷ []
 
 -- both texts' logs
 pub record Examples : Type 0 where
@@ -50,7 +51,7 @@ unfolding
     flatten bytes textOf handed
     before lines digitRun keepDigit wellFormed valueFrom readRun readNumber startsWith isWord andThen readSpaced readClose readNumbers readBehind readForm formOf
     kindOf reading frameLine overheadLine interruptLine framingLine strictLine rootLine hubLines putRoot putNode putEmpty putHub putPorts putFigures planOf
-    any sum first advance countsIn counts held due sought below lowest walk led nearest chooseBy perform
+    any sum first advance countsIn counts held due sought below lowest walk led nearest chooseBy perform comeTo
     eventOf steps stepsBefore eventLog eventsLog planLog logOf
     digitsBy digits drawNumbers drawForm drawLine nodesHead nodesLine refusedLine grantLine restLine answerLine
 examples = record { strict = refl; default = refl }

@@ -1,15 +1,16 @@
--- The steps before an event over the cells write the lines of the steps over the hub.
+-- The steps before an event over the cells write the lines of the steps over the watched hub.
 use Prim.Native.Nat.{ℕ, zero, suc}
-use mathlib.Core.Path.{_≡_, refl, sym}
+use mathlib.Core.Path.{_≡_, refl, sym, subst₂}
 use mathlib.Core.Bool.{Bool, true, false}
 use mathlib.Core.List.{List, [], _∷_}
 use lib.Dec.{ltb, eqb}
 use Rattle.rules.specs.Choice.{if_then_else_}
 use Rattle.rules.specs.Plan.{Plan}
-use Rattle.rules.specs.Call.{step}
-use Rattle.rules.specs.Machine.{Hub, perform}
+use Rattle.rules.specs.Call.{step, Answer}
+use Rattle.rules.specs.Machine.{perform}
 use Rattle.rules.specs.Rows.{row11}
 use Rattle.rules.specs.Control.{Control, control}
+use Rattle.rules.specs.Waits.{Watched}
 use Rattle.rules.proofs.Laws.Passes.{Which, which, yes′, no′}
 use Rattle.writer.specs.declared.Put.the-variants.{Behind}
 use Rattle.log_lines.specs.Lines.{classNumber, grantLine, restLine, stepLine, answerLine}
@@ -23,16 +24,16 @@ use Rattle.cells.specs.Decode.{planIn}
 use Rattle.cells.specs.Frames.{advanceBy}
 use Rattle.cells.specs.Instants.{dueBy, soughtBy}
 use Rattle.cells.specs.Calls as calls
-use Rattle.cells.specs.Calls.{classNumbered, grantBy, restBy, handledBy, stepDue, rowBy, stepBy, stepAnswer, performBy}
+use Rattle.cells.specs.Calls.{classNumbered, grantBy, restBy, handledBy, stepDue, rowBy, stepBy, stepAnswer, stepWait, performBy}
 use Rattle.refinement.specs.Kept.{Ready}
 use Rattle.log_spec.specs.Log.{Logged, afterStep, steps, stepsBefore, budget}
 use Rattle.log_spec.specs.Cells.{Run, goingOn, line, more, budgetBy, stepsBy}
 use Rattle.log_spec.proofs.Writing.{Writes, writes-none, writes-line, writes-on}
-use Rattle.log_spec.proofs.Leading.{Leads, further, same-budget}
+use Rattle.log_spec.proofs.Leading.{Leads, onWatched, further, same-budget}
 
 -- a grant names its class by 1 or 2
 abbrev Numbered : Step → Type 0
-Numbered (Grant s k class end moves) = classNumber (classNumbered class) ≡ class
+Numbered (Grant s k class end moves wait) = classNumber (classNumbered class) ≡ class
 Numbered (Rest s moves) = Unit {0}
 Numbered Quiet = Unit {0}
 Numbered (Refused n) = Unit {0}
@@ -64,69 +65,71 @@ module _ (P : List ℕ) (t : ℕ) where
       go true = due-numbered (dueBy (planIn P) s) s
       go false = tt
 
--- a run over cells writes the log's lines, and leaves cells that lead to its hub
+-- a run over cells writes the log's lines, and leaves cells that lead to its watched hub
 abbrev pub Logs : Bool → List ℕ → Logged → List ℕ → ℕ → Run → Type 0
-Logs write P log buffer at r = Writes write (log .written) buffer at (λ s. Leads P s (log .hub)) r
+Logs write P log buffer at r = Writes write (log .written) buffer at (λ s. Leads P s (log .left)) r
 
 -- what follows a step's answer, where the steps behind it log
 module _
-    (write : Bool) (P : List ℕ) (n t : ℕ) (h : Hub Control)
-    (again : (s b : List ℕ) (z : ℕ) → Leads P s h → Logs write P (steps (planIn P) n t h) b z (stepsBy write P n t s b z))
-    (buffer : List ℕ) (at : ℕ) (s : List ℕ) (leads : Leads P s h)
+    (write : Bool) (P : List ℕ) (n t : ℕ) (w : Watched Control)
+    (again : (s b : List ℕ) (z : ℕ) → Leads P s w → Logs write P (steps (planIn P) n t w) b z (stepsBy write P n t s b z))
+    (buffer : List ℕ) (at : ℕ) (s : List ℕ) (leads : Leads P s w)
   where
     written : (l : List ℕ)
-        → Writes write (l ∷ steps (planIn P) n t h .written) buffer at (λ r. Leads P r (steps (planIn P) n t h .hub)) (goingOn (stepsBy write P n t) (line write l s buffer at))
+        → Writes write (l ∷ steps (planIn P) n t w .written) buffer at (λ r. Leads P r (steps (planIn P) n t w .left)) (goingOn (stepsBy write P n t) (line write l s buffer at))
     written l =
-        writes-on write buffer at (λ r. Leads P r h) _ (l ∷ []) (steps (planIn P) n t h .written) (line write l s buffer at) (stepsBy write P n t)
+        writes-on write buffer at (λ r. Leads P r w) _ (l ∷ []) (steps (planIn P) n t w .written) (line write l s buffer at) (stepsBy write P n t)
         (writes-line write buffer at _ l s leads) again
 
     after : (a : Step) → Numbered a
-        → Logs write P (afterStep (planIn P) (steps (planIn P) n t) (stepAnswer a) h) buffer at
+        → Logs write P (afterStep (planIn P) (steps (planIn P) n t) (stepAnswer a) (stepWait a) w) buffer at
         (if more a then goingOn (stepsBy write P n t) (line write (stepLine a) s buffer at) else record { put = Behind at; cells = s; buffer = buffer })
-    unfolding stepAnswer stepLine answerLine
-    after (Grant d k class end moves) e = rw e (written (grantLine d k class end moves))
+    unfolding stepAnswer stepWait stepLine answerLine
+    after (Grant d k class end moves wait) e = rw e (written (grantLine d k class end moves wait))
     after (Rest d moves) e = written (restLine d moves)
     after Quiet e = writes-none write buffer at _ s leads
     after (Refused m) e = writes-none write buffer at _ s leads
 
 module _ (write : Bool) (P : List ℕ) (R : Ready P) (t : ℕ) where
-  -- at most n steps log, from all cells that lead to a hub
+  -- at most n steps log, from all cells that lead to a watched hub
   abbrev StepsLog : ℕ → Type 0
   StepsLog n =
-      (s : List ℕ) (h : Hub Control) → Leads P s h → (buffer : List ℕ) (at : ℕ)
-      → Logs write P (steps (planIn P) n t h) buffer at (stepsBy write P n t s buffer at)
+      (s : List ℕ) (w : Watched Control) → Leads P s w → (buffer : List ℕ) (at : ℕ)
+      → Logs write P (steps (planIn P) n t w) buffer at (stepsBy write P n t s buffer at)
 
   no-step : StepsLog 0
   unfolding steps stepsBy
-  no-step s h leads buffer at = writes-none write buffer at _ s leads
+  no-step s w leads buffer at = writes-none write buffer at _ s leads
 
   one-more : (n : ℕ) → StepsLog n → StepsLog (suc n)
   unfolding steps stepsBy performBy
-  one-more n again s h leads buffer at =
-      let f = further P R (step t) s h leads in
-      let o = perform (planIn P) (control (planIn P)) (step t) h in
-      rw (← (f .answer))
-      (after write P n t (o .hub) (λ r b z l. again r (o .hub) l b z) buffer at (stepBy P t s .cells) (f .leads) (stepBy P t s .answer) (step-numbered P t s))
+  one-more n again s w leads buffer at =
+      let f = further P R (step t) s w leads in
+      let o = onWatched P (step t) w in
+      subst₂
+      (λ (x : Answer) (wait : ℕ). Logs write P (afterStep (planIn P) (steps (planIn P) n t) x wait (o .left)) buffer at (stepsBy write P (suc n) t s buffer at))
+      (f .answer) (f .wait)
+      (after write P n t (o .left) (λ r b z l. again r (o .left) l b z) buffer at (stepBy P t s .cells) (f .leads) (stepBy P t s .answer) (step-numbered P t s))
 
   pub steps-log : (n : ℕ) → StepsLog n
   steps-log zero = no-step
   steps-log (suc n) = one-more n (steps-log n)
 
 -- where row 11 refuses the bound there is no step
-late-steps : (p : Plan) (n t : ℕ) (h : Hub Control) → row11 (h .core) t .applies ≡ true → steps p n t h ≡ record { written = []; hub = h }
+late-steps : (p : Plan) (n t : ℕ) (w : Watched Control) → row11 (w .hub .core) t .applies ≡ true → steps p n t w ≡ record { written = []; left = w }
 unfolding steps perform
-late-steps p zero t h e = refl
-late-steps p (suc n) t h e = rw e
+late-steps p zero t w e = refl
+late-steps p (suc n) t w e = rw e
 
-before-steps : (p : Plan) (t : ℕ) (h : Hub Control) → stepsBefore p t h ≡ steps p (budget p (h .core)) t h
+before-steps : (p : Plan) (t : ℕ) (w : Watched Control) → stepsBefore p t w ≡ steps p (budget p (w .hub .core)) t w
 unfolding stepsBefore
-before-steps p t h = go (which (row11 (h .core) t .applies))
+before-steps p t w = go (which (row11 (w .hub .core) t .applies))
   where
-    go : Which (row11 (h .core) t .applies) → stepsBefore p t h ≡ steps p (budget p (h .core)) t h
-    go (yes′ e) = rw e (sym (late-steps p (budget p (h .core)) t h e))
+    go : Which (row11 (w .hub .core) t .applies) → stepsBefore p t w ≡ steps p (budget p (w .hub .core)) t w
+    go (yes′ e) = rw e (sym (late-steps p (budget p (w .hub .core)) t w e))
     go (no′ e) = rw e
 
-pub before-log : (write : Bool) (P : List ℕ) → Ready P → (t : ℕ) (s : List ℕ) (h : Hub Control) → Leads P s h → (buffer : List ℕ) (at : ℕ)
-    → Logs write P (stepsBefore (planIn P) t h) buffer at (stepsBy write P (budgetBy s) t s buffer at)
-before-log write P R t s h leads buffer at =
-    rw (before-steps (planIn P) t h, same-budget P R s h leads) (steps-log write P R t (budget (planIn P) (h .core)) s h leads buffer at)
+pub before-log : (write : Bool) (P : List ℕ) → Ready P → (t : ℕ) (s : List ℕ) (w : Watched Control) → Leads P s w → (buffer : List ℕ) (at : ℕ)
+    → Logs write P (stepsBefore (planIn P) t w) buffer at (stepsBy write P (budgetBy s) t s buffer at)
+before-log write P R t s w leads buffer at =
+    rw (before-steps (planIn P) t w, same-budget P R s w leads) (steps-log write P R t (budget (planIn P) (w .hub .core)) s w leads buffer at)

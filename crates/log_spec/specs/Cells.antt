@@ -63,7 +63,7 @@ line write bytes s buffer at = record { put = putAnswer buffer at bytes; cells =
 
 -- whether more steps may follow a step's answer
 abbrev pub more : Step → Bool
-more (stepped.Grant s k class end moves) = true
+more (stepped.Grant s k class end moves wait) = true
 more (stepped.Rest s moves) = true
 more stepped.Quiet = false
 more (stepped.Refused n) = false

@@ -1,4 +1,5 @@
--- "The log": the lines that the program writes for a text.
+-- "The log": the lines that the program writes for a text. It goes over a hub with the recorded times beside it,
+-- since a grant's line names its wait (request 1 of document 02).
 use Prim.Native.Nat.{ℕ, zero, suc, _+_, _*_}
 use mathlib.Core.List.{List, [], _∷_, _++_, flatten}
 use mathlib.Core.Option.{Option, none, some}
@@ -10,9 +11,8 @@ use Rattle.rules.specs.Call.{Call, step, time, Answer, taken, refused, grant, r
 use Rattle.rules.specs.Core.{Core, Request, standing, Line, resting, busy}
 use Rattle.rules.specs.Core as core
 use Rattle.rules.specs.Rows.{row11}
-use Rattle.rules.specs.Machine.{Hub, perform}
 use Rattle.rules.specs.Control.{Control, control}
-use Rattle.rules.specs.Run.{freshHub}
+use Rattle.rules.specs.Waits.{Watched, freshWatched, performWatched}
 use Rattle.plan.specs.declared.Answer as plan
 use Rattle.plan.specs.declared.Answer.the-variants.{Taken, Refused}
 use Rattle.plan.specs.Tables.{planOf}
@@ -22,10 +22,10 @@ use Rattle.log_lines.specs.FirstLine.{nodesLine, refusedLine}
 use Rattle.event_lines.specs.Event.{eventOf, callOn}
 use Rattle.log_lines.specs.Lines.{answerLine}
 
--- the lines written so far, each with its LF, and the hub that is left
+-- the lines written so far, each with its LF, and the hub that is left, with the recorded times beside it
 pub record Logged : Type 0 where
   pub written : List (List ℕ)
-  pub hub : Hub Control
+  pub left : Watched Control
 
 -- the line of an event's answer: a taken event has none
 abbrev pub eventLine : ℕ → Answer → List (List ℕ)
@@ -50,50 +50,50 @@ budget p s = 2 * sum (p .nodes) (λ k. stands (s .request k)) + runs (s .line)
 
 -- a line in front of what comes after it
 abbrev pub further : List ℕ → Logged → Logged
-further line more = record { written = line ∷ more .written; hub = more .hub }
+further line more = record { written = line ∷ more .written; left = more .left }
 
 module _ (p : Plan) where
-  -- what follows a step's answer: after quiet no step is due before t
-  abbrev pub afterStep : (Hub Control → Logged) → Answer → Hub Control → Logged
-  afterStep more taken h = record { written = []; hub = h }
-  afterStep more (refused n) h = record { written = []; hub = h }
-  afterStep more (grant s k c end moves) h = further (answerLine 0 (grant s k c end moves)) (more h)
-  afterStep more (rest s moves) h = further (answerLine 0 (rest s moves)) (more h)
-  afterStep more quiet h = record { written = []; hub = h }
+  -- what follows a step's answer with its wait: after quiet no step is due before t
+  abbrev pub afterStep : (Watched Control → Logged) → Answer → ℕ → Watched Control → Logged
+  afterStep more taken wait w = record { written = []; left = w }
+  afterStep more (refused n) wait w = record { written = []; left = w }
+  afterStep more (grant s k c end moves) wait w = further (answerLine 0 (grant s k c end moves) wait) (more w)
+  afterStep more (rest s moves) wait w = further (answerLine 0 (rest s moves) wait) (more w)
+  afterStep more quiet wait w = record { written = []; left = w }
 
   -- at most n steps with bound t
-  unfoldable pub steps : ℕ → ℕ → Hub Control → Logged
-  steps zero t h = record { written = []; hub = h }
-  steps (suc n) t h =
-      let o = perform p (control p) (step t) h in
-      afterStep (steps n t) (o .answer) (o .hub)
+  unfoldable pub steps : ℕ → ℕ → Watched Control → Logged
+  steps zero t w = record { written = []; left = w }
+  steps (suc n) t w =
+      let o = performWatched p (control p) (step t) w in
+      afterStep (steps n t) (o .answer) (o .wait) (o .left)
 
   -- all steps strictly before t, where row 11 allows it
-  unfoldable pub stepsBefore : ℕ → Hub Control → Logged
-  stepsBefore t h = if row11 (h .core) t .applies then record { written = []; hub = h } else steps (budget p (h .core)) t h
+  unfoldable pub stepsBefore : ℕ → Watched Control → Logged
+  stepsBefore t w = if row11 (w .hub .core) t .applies then record { written = []; left = w } else steps (budget p (w .hub .core)) t w
 
   -- the event of line `number`: the steps before it, then the event; a line that is no form is refused by 1
-  unfoldable pub eventLog : ℕ → Option Call → Hub Control → Logged
-  eventLog number none h = record { written = refusedLine number 1 ∷ []; hub = h }
-  eventLog number (some call) h =
-      let before = stepsBefore (time call) h in
-      let o = perform p (control p) call (before .hub) in
-      record { written = before .written ++ eventLine number (o .answer); hub = o .hub }
+  unfoldable pub eventLog : ℕ → Option Call → Watched Control → Logged
+  eventLog number none w = record { written = refusedLine number 1 ∷ []; left = w }
+  eventLog number (some call) w =
+      let before = stepsBefore (time call) w in
+      let o = performWatched p (control p) call (before .left) in
+      record { written = before .written ++ eventLine number (o .answer); left = o .left }
 
   -- the event lines from line `number` on
-  unfoldable pub eventsLog : ℕ → Hub Control → Lines → List (List ℕ)
-  eventsLog number h nothing = []
-  eventsLog number h (unended l) = refusedLine number 1 ∷ []
-  eventsLog number h (ended l more) =
-      let first = eventLog number (callOn (eventOf l)) h in
-      first .written ++ eventsLog (nextNumber number) (first .hub) more
+  unfoldable pub eventsLog : ℕ → Watched Control → Lines → List (List ℕ)
+  eventsLog number w nothing = []
+  eventsLog number w (unended l) = refusedLine number 1 ∷ []
+  eventsLog number w (ended l more) =
+      let first = eventLog number (callOn (eventOf l)) w in
+      first .written ++ eventsLog (nextNumber number) (first .left) more
 
 -- behind the plan
 unfoldable pub planLog : List ℕ → plan.Answer → List ℕ → List (List ℕ)
 planLog text (Refused line number) tables = refusedLine line number ∷ []
 planLog text (Taken nodes hubs at line) tables =
     let p = planOf tables in
-    nodesLine nodes hubs ∷ eventsLog p line (freshHub p (control p)) (lines (drop at text))
+    nodesLine nodes hubs ∷ eventsLog p line (freshWatched p (control p)) (lines (drop at text))
 
 -- the whole log of a text, line by line; bytes behind 65,536 are not there
 unfoldable pub logOf : List ℕ → List (List ℕ)

@@ -12,9 +12,9 @@ use Rattle.rules.specs.Plan.{Plan}
 use Rattle.rules.specs.Call.{Call, time}
 use Rattle.rules.specs.Core.{due, before}
 use Rattle.rules.specs.Rows.{row11}
-use Rattle.rules.specs.Machine.{Hub, perform}
+use Rattle.rules.specs.Machine.{perform}
 use Rattle.rules.specs.Control.{Control, control}
-use Rattle.rules.specs.Run.{freshHub}
+use Rattle.rules.specs.Waits.{Watched, freshWatched}
 use Rattle.plan.specs.declared.Answer as plan
 use Rattle.plan.specs.declared.Answer.the-variants.{Taken, Refused}
 use Rattle.plan.specs.Tables.{planOf}
@@ -32,36 +32,36 @@ pub data Act : Type 0 where
   event : (number : ℕ) (steps : Logged) (call : Call) → Act
 
 module _ (p : Plan) where
-  -- of one line, on hub h: the steps before a call are those that `eventLog` makes
-  unfoldable pub act : ℕ → Option Call → Hub Control → Act
-  act number none h = no-form number
-  act number (some call) h = event number (stepsBefore p (time call) h) call
+  -- of one line, on watched hub w: the steps before a call are those that `eventLog` makes
+  unfoldable pub act : ℕ → Option Call → Watched Control → Act
+  act number none w = no-form number
+  act number (some call) w = event number (stepsBefore p (time call) w) call
 
   -- of the lines from line `number` on: each on the hub that `eventLog` leaves behind the line before it
-  unfoldable pub acts : ℕ → Hub Control → Lines → List Act
-  acts number h nothing = []
-  acts number h (unended l) = no-form number ∷ []
-  acts number h (ended l more) =
+  unfoldable pub acts : ℕ → Watched Control → Lines → List Act
+  acts number w nothing = []
+  acts number w (unended l) = no-form number ∷ []
+  acts number w (ended l more) =
       let call = callOn (eventOf l) in
-      act number call h ∷ acts (nextNumber number) (eventLog p number call h .hub) more
+      act number call w ∷ acts (nextNumber number) (eventLog p number call w .left) more
 
   -- what an act writes: the lines of its steps, and then that of its answer
   abbrev pub writes : Act → List (List ℕ)
   writes (no-form number) = refusedLine number 1 ∷ []
-  writes (event number steps call) = steps .written ++ eventLine number (perform p (control p) call (steps .hub) .answer)
+  writes (event number steps call) = steps .written ++ eventLine number (perform p (control p) call (steps .left .hub) .answer)
 
   -- an event with a time allowed by row 11: as it is made, no instant strictly before its time is due
   abbrev pub NothingDue : Act → Type 0
   NothingDue (no-form number) = Unit {0}
   NothingDue (event number steps call) =
-      row11 (steps .hub .core) (time call) .applies ≡ false → before (due p (steps .hub .core)) (time call) ≡ false
+      row11 (steps .left .hub .core) (time call) .applies ≡ false → before (due p (steps .left .hub .core)) (time call) ≡ false
 
 -- behind the plan: a refused plan has no events
 unfoldable pub planActs : List ℕ → plan.Answer → List ℕ → List Act
 planActs text (Refused line number) tables = []
 planActs text (Taken nodes hubs at line) tables =
     let p = planOf tables in
-    acts p line (freshHub p (control p)) (lines (drop at text))
+    acts p line (freshWatched p (control p)) (lines (drop at text))
 
 -- of a whole text, as in `logOf`
 unfoldable pub actsOf : List ℕ → List Act

@@ -6,13 +6,13 @@ use mathlib.Core.Bool.{Bool, true, false, not, _&&_, _||_, or-false}
 use mathlib.Core.List.{List}
 use mathlib.Core.Logic.{⊎-elim}
 use native.Mathlib.Omega.{arith}
-use native.Mathlib.Nat.{eq-or-lt-of-le}
+use native.Mathlib.Nat.{eq-or-lt-of-le, min-le-right}
 use lib.Dec.{ltb, leb, eqb}
 use lib.ListN.{length, getD, set, length-set}
 use lib.Seq.{getD-set-same, getD-set-other}
 use borrow.Author.Tests.{ltb-true, ltb-false, leb-true, lt-ltb, le-ltb, le-leb, eqb-true, eqb-false, eq-eqb}
 use Rattle.rules.specs.Choice.{if_then_else_, any}
-use Rattle.rules.specs.Plan.{Plan, Port, node, empty, hub, most-levels}
+use Rattle.rules.specs.Plan.{Plan, Port, node, empty, hub, most-levels, most-hubs}
 use Rattle.rules.specs.Drawn.{Drawn, Within, Hung, Covers}
 use Rattle.rules.specs.Control.{seen, below}
 use Rattle.rules.proofs.Laws.Passes.{Which, which, yes′, no′, true-false, and-both, any-some, any-none}
@@ -449,17 +449,23 @@ module _ (P : List ℕ) (R : Ready P) (f : Bool → ℕ → Bool) where
 abbrev pub AllCount : List ℕ → List ℕ → Type 0
 AllCount P s = (isHigh : Bool) (k : ℕ) → Within (planIn P .nodes) k → countsOf (planIn P) isHigh s k ≡ shownIn isHigh (getD s (requestCell k) 0)
 
+pub built-same : (P : List ℕ) (s : List ℕ) → SameButMasks s (buildMasks P s)
+unfolding buildMasks
+built-same P s =
+    let r = clearMasks (hubsIn P) s in
+    let t = showNodes P (planIn P .nodes) r in
+    same-trans s r (buildMasks P s) (clear-same (hubsIn P) (min-le-right (planIn P .hubs) most-hubs) s)
+    (same-trans r t (buildMasks P s) (nodes-same P (planIn P .nodes) r) (hubs-same P (hubsIn P) t))
+
 pub built : (P : List ℕ) → Ready P → (s : List ℕ) → length s ≡ cells → AllCount P s → Mended (planIn P) s (buildMasks P s)
 unfolding buildMasks
 built P R s size counted =
-    rw all
-    (record {
-      size = hubs-size P h t ∙ nodes-size P (planIn P .nodes) r ∙ clear-size h s ∙ size;
-      same =
-          same-trans s r (showHubs P h t) (clear-same h few s)
-          (same-trans r t (showHubs P h t) (nodes-same P (planIn P .nodes) r) (hubs-same P h t));
-      masks = λ c g w. coded c g w ∙ mask-cong ports (Upto P R f 0 c g) (seenAt (planIn P) (f c) g) (λ q l u. whole P R f 0 c g q (omega arith) w l);
-    })
+    record {
+      size = rw all (hubs-size P h t ∙ nodes-size P (planIn P .nodes) r ∙ clear-size h s ∙ size);
+      same = built-same P s;
+      masks = λ c g w.
+          rw all (coded c g w ∙ mask-cong ports (Upto P R f 0 c g) (seenAt (planIn P) (f c) g) (λ q l u. whole P R f 0 c g q (omega arith) w l));
+    }
   where
     h : ℕ
     h = planIn P .hubs

@@ -8,6 +8,7 @@ pub mod Mended
 pub mod Changed
 pub mod Standing
 pub mod Requested
+pub mod OtherTimes
 pub mod Granted
 pub mod Headed
 pub mod Built
@@ -19,6 +20,9 @@ pub mod FreshTied
 pub mod Walked
 pub mod Rested
 pub mod Performed
+pub mod Unaffected
 pub mod Runs
 pub mod Looked
 pub mod Written
+pub mod Recorded
+pub mod WatchedRuns

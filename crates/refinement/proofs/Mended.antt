@@ -30,7 +30,7 @@ none-counts false x granted force e = e
 none-counts true x granted force e = rw e
 
 -- node k's request is x in place of `old`
-module _ (P : List ℕ) (R : Ready P) (k : ℕ) (w : Within (planIn P .nodes) k) (old x : ℕ) where
+module _ (P : List ℕ) (k old x : ℕ) where
   -- the steps of `mendClass`: what holds of s and of what the climb leaves holds of what it leaves
   class-holds : (isHigh : Bool) (s : List ℕ) (C : List ℕ → Type 0)
       → (standsIn isHigh x ≡ false → standsIn isHigh old ≡ false → C s) → C (mendBit P isHigh k x s) → C (mendClass P isHigh k old x s)
@@ -46,7 +46,7 @@ module _ (P : List ℕ) (R : Ready P) (k : ℕ) (w : Within (planIn P .nodes) k)
   unfolding mendBit
   class-size isHigh s = class-holds isHigh s (λ r. length r ≡ length s) (λ n o. refl) (mend-size P isHigh most-levels _ _ _ s)
 
-  class-same : (isHigh : Bool) (s : List ℕ) → SameButMasks s (mendClass P isHigh k old x s)
+  pub class-same : (isHigh : Bool) (s : List ℕ) → SameButMasks s (mendClass P isHigh k old x s)
   unfolding mendBit
   class-same isHigh s = class-holds isHigh s (SameButMasks s) (λ n o i m. refl) (mend-same P isHigh most-levels _ _ _ s)
 
@@ -57,6 +57,7 @@ module _ (P : List ℕ) (R : Ready P) (k : ℕ) (w : Within (planIn P .nodes) k)
       class-holds isHigh s (λ r. getD r (maskCell (not isHigh) h) 0 ≡ getD s (maskCell (not isHigh) h) 0) (λ n o. refl)
       (mend-other P isHigh most-levels _ _ _ s h)
 
+module _ (P : List ℕ) (R : Ready P) (k : ℕ) (w : Within (planIn P .nodes) k) (old x : ℕ) where
   -- where neither stands in the class, node k counts as little as before
   class-mends : (isHigh : Bool) (earlier counts : ℕ → Bool) → ((j : ℕ) → (j ≡ k → ⊥) → counts j ≡ earlier j)
       → (earlier k ≡ true → standsIn isHigh old ≡ true) → (s : List ℕ) → length s ≡ cells
@@ -64,7 +65,7 @@ module _ (P : List ℕ) (R : Ready P) (k : ℕ) (w : Within (planIn P .nodes) k)
       → MasksRight (planIn P) isHigh earlier s → MasksRight (planIn P) isHigh counts (mendClass P isHigh k old x s)
   unfolding mendBit
   class-mends isHigh earlier counts others own s size now right =
-      class-holds isHigh s (MasksRight (planIn P) isHigh counts)
+      class-holds P k old x isHigh s (MasksRight (planIn P) isHigh counts)
       (λ n o. subst (λ (f : ℕ → Bool). MasksRight (planIn P) isHigh f s) (λ i j. same n o j i) right)
       (node-mends P R isHigh k earlier counts others s size w right _ now)
     where
@@ -81,8 +82,8 @@ module _ (P : List ℕ) (R : Ready P) (k : ℕ) (w : Within (planIn P .nodes) k)
       → Mended (planIn P) s (mendClass P true k old x (mendClass P false k old x s))
   mended s size asked but =
       record {
-        size = class-size true first ∙ first-size;
-        same = same-trans s first second (class-same false s) (class-same true first);
+        size = class-size P k old x true first ∙ first-size;
+        same = same-trans s first second (class-same P k old x false s) (class-same P k old x true first);
         masks = masks;
       }
     where
@@ -93,7 +94,7 @@ module _ (P : List ℕ) (R : Ready P) (k : ℕ) (w : Within (planIn P .nodes) k)
       second = mendClass P true k old x first
 
       first-size : length first ≡ cells
-      first-size = class-size false s ∙ size
+      first-size = class-size P k old x false s ∙ size
 
       counts : (isHigh : Bool) → countsBy isHigh x (getD s (grantedCell k) 0) (getD s (forceCell k) 0) ≡ countsOf (planIn P) isHigh s k
       counts isHigh =
@@ -101,15 +102,15 @@ module _ (P : List ℕ) (R : Ready P) (k : ℕ) (w : Within (planIn P .nodes) k)
 
       counts-first : countsBy true x (getD first (grantedCell k) 0) (getD first (forceCell k) 0) ≡ countsOf (planIn P) true s k
       counts-first =
-          ap₂ (λ (n m : ℕ). countsBy true x n m) (class-same false s (grantedCell k) (node-no-mask k 3))
-          (class-same false s (forceCell k) (node-no-mask k 1))
+          ap₂ (λ (n m : ℕ). countsBy true x n m) (class-same P k old x false s (grantedCell k) (node-no-mask k 3))
+          (class-same P k old x false s (forceCell k) (node-no-mask k 1))
           ∙ counts true
 
       masks : (isHigh : Bool) → MasksRight (planIn P) isHigh (countsOf (planIn P) isHigh s) second
       masks true g v =
           class-mends true (but true .earlier) (countsOf (planIn P) true s) (but true .others) (but true .own) first first-size counts-first
-          (λ h u. class-other false s h ∙ but true .masks h u) g v
+          (λ h u. class-other P k old x false s h ∙ but true .masks h u) g v
       masks false g v =
-          class-other true first g
+          class-other P k old x true first g
           ∙ class-mends false (but false .earlier) (countsOf (planIn P) false s) (but false .others) (but false .own) s size (counts false)
           (but false .masks) g v

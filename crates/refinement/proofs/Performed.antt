@@ -34,13 +34,15 @@ use Rattle.cells.specs.declared.Step.the-variants.{Rest}
 use Rattle.cells.specs.Layout.{requestCell, forceCell, classOf, shareOf, requestOf, requestCode}
 use Rattle.cells.specs.Decode.{planIn, coreOf, controlOf, hubOf}
 use Rattle.cells.specs.Masks.{putRequest, grantNode}
+use Rattle.cells.specs.Waits.{recordSince}
 use Rattle.cells.specs.Frames.{advanceBy}
 use Rattle.cells.specs.Instants.{dueBy, dueIn, soughtBy, soughtIn}
 use Rattle.cells.specs.Turns as turns
-use Rattle.cells.specs.Calls.{row12By, rowsBy, numberOf, rowBy, changeBy, eventBy, bitsAt, busyUntil, classNumber, classNumbered, grantBy, handledBy, stepDue, stepBy, stepAnswer, Performed, eventLeft, performBy}
+use Rattle.cells.specs.Calls.{row12By, rowsBy, numberOf, rowBy, putUpCode, changeBy, eventBy, bitsAt, busyUntil, classNumber, classNumbered, grantBy, handledBy, Stepped, stepDue, stepBy, stepAnswer, stepWait, Performed, eventLeft, performBy}
 use Rattle.refinement.specs.Kept.{Ready, Kept, countsOf}
 use Rattle.refinement.proofs.Changed.{within-node, kept-but, kept-right}
 use Rattle.refinement.proofs.Requested.{Left, own-field, request-left}
+use Rattle.refinement.proofs.OtherTimes.{record-other, other-left}
 use Rattle.refinement.proofs.Granted.{grantedCore, grant-left}
 use Rattle.refinement.proofs.Headed.{headed, busy-left}
 use Rattle.refinement.proofs.Started.{code-read, advance-left}
@@ -50,10 +52,17 @@ use Rattle.refinement.proofs.Instants.{sought-tied, due-tied}
 use Rattle.refinement.proofs.Walked.Chosen.{Chosen, chosen-tied}
 use Rattle.refinement.proofs.Rested.{rested-tied}
 
+-- a step over the cells, as a call
+abbrev pub stepped : Stepped → Performed
+stepped o = record { answer = stepAnswer (o .answer); wait = stepWait (o .answer); cells = o .cells }
+
 -- a call over the cells, and the same call on the hub
 pub record Agrees (p : Plan) (x : Performed) (o : Outcome Control) : Type 0 where
   pub answer : x .answer ≡ o .answer
   pub left : Left p (x .cells) (o .hub .core) (o .hub .turn)
+
+pub agreed-hub : {p : Plan} {x : Performed} {o : Outcome Control} → Agrees p x o → hubOf p (x .cells) ≡ o .hub
+agreed-hub a i = record { core = a .left .core i; turn = a .left .control i }
 
 -- ---- rows
 
@@ -112,6 +121,7 @@ module _ (P : List ℕ) (R : Ready P) (s : List ℕ) (K : Kept (planIn P) s) whe
       read normal = code-read b u .0
       read high = code-read b u .1
 
+module _ (P : List ℕ) (R : Ready P) (s : List ℕ) (K : Kept (planIn P) s) where
   share-in-force : (k : ℕ) → Within (planIn P .nodes) k → coreOf (planIn P) s .force k ≡ shareOf (getD s (forceCell k) 0)
   unfolding coreOf
   share-in-force k w = rw (within-node (planIn P) k w)
@@ -124,7 +134,20 @@ module _ (P : List ℕ) (R : Ready P) (s : List ℕ) (K : Kept (planIn P) s) whe
       subst
       (λ (r : Share). Left (planIn P) (changeBy P (ask c t k b) s) (withRequest k (standing (putUp r c) b) (coreOf (planIn P) s)) (controlOf (planIn P) s))
       (sym (share-in-force k (x .node)))
-      (asked-left (putUp (shareOf (getD s (forceCell k) 0)) c) k b (x .node) (omega (arith, x .long, longest-up (planIn P .framing))))
+      (record { kept = l .kept; core = l .core ∙ ap (withRequest k (standing d b)) (o .core); control = l .control ∙ o .control })
+    where
+      d : Class
+      d = putUp (shareOf (getD s (forceCell k) 0)) c
+
+      -- with the request's time recorded
+      r : List ℕ
+      r = recordSince k (putUpCode c k b s) t s
+
+      o : Left (planIn P) r (coreOf (planIn P) s) (controlOf (planIn P) s)
+      o = other-left (planIn P) (R .drawn) s r (record-other k (putUpCode c k b s) t s) K
+
+      l : Left (planIn P) (putRequest P k (requestCode (standing d b)) r) (withRequest k (standing d b) (coreOf (planIn P) r)) (controlOf (planIn P) r)
+      l = asked-left P R r (o .kept) d k b (x .node) (omega (arith, x .long, longest-up (planIn P .framing)))
   change-left a call (leaves t k o w) =
       request-left P R s (K .size) k w (kept-right (planIn P) k s K) (kept-but (planIn P) s K) 0
   change-left a call (reserves t k n b x) = reserve-left P R s K k (x .node) n b (small-range (x .range))
@@ -184,7 +207,7 @@ module _ (P : List ℕ) (R : Ready P) (d : ℕ) (s : List ℕ) (K : Kept (planIn
 
   -- a grant to the turn's node, which counts in its class
   grant-tied : Sound (planIn P) (coreOf (planIn P) s) → Counting (planIn P .nodes) (countsOf (planIn P) isHigh s) (turn .node)
-      → Agrees (planIn P) (record { answer = stepAnswer (grantBy P d isHigh chosen .answer); cells = grantBy P d isHigh chosen .cells })
+      → Agrees (planIn P) (stepped (grantBy P d isHigh chosen))
       (grantTo (planIn P) (control (planIn P)) d (classOf isHigh) (coreOf (planIn P) s) turn)
   unfolding grantBy stepAnswer
   grant-tied ok n =
@@ -236,7 +259,7 @@ module _ (P : List ℕ) (R : Ready P) (d : ℕ) (s : List ℕ) (K : Kept (planIn
     (turns-count : (c : Class) → sought (planIn P) (coreOf (planIn P) s) ≡ rules.class c
     → Counting (planIn P .nodes) (countsIn c (coreOf (planIn P) s)) (hubs.chooseBy (planIn P) c (countsIn c (coreOf (planIn P) s)) (controlOf (planIn P) s) .node)) where
   by-sought : (x : Sought) → soughtBy s ≡ x
-      → Agrees (planIn P) (record { answer = stepAnswer (handledBy P d x s .answer); cells = handledBy P d x s .cells })
+      → Agrees (planIn P) (stepped (handledBy P d x s))
       (handled (planIn P) (control (planIn P)) d (soughtIn x) (coreOf (planIn P) s) (controlOf (planIn P) s))
   unfolding handledBy
   by-sought (seek.Class isHigh) e =
@@ -245,11 +268,11 @@ module _ (P : List ℕ) (R : Ready P) (d : ℕ) (s : List ℕ) (K : Kept (planIn
       let r = rested-tied P R d s K in
       record { answer = ap stepAnswer (r .answer) ∙ rest-read d _; left = record { kept = r .kept; core = r .core; control = r .control } }
 
-  handled-tied : Agrees (planIn P) (record { answer = stepAnswer (handledBy P d (soughtBy s) s .answer); cells = handledBy P d (soughtBy s) s .cells })
+  handled-tied : Agrees (planIn P) (stepped (handledBy P d (soughtBy s) s))
       (handled (planIn P) (control (planIn P)) d (sought (planIn P) (coreOf (planIn P) s)) (coreOf (planIn P) s) (controlOf (planIn P) s))
   handled-tied =
       subst
-      (λ (x : rules.Sought). Agrees (planIn P) (record { answer = stepAnswer (handledBy P d (soughtBy s) s .answer); cells = handledBy P d (soughtBy s) s .cells })
+      (λ (x : rules.Sought). Agrees (planIn P) (stepped (handledBy P d (soughtBy s) s))
       (handled (planIn P) (control (planIn P)) d x (coreOf (planIn P) s) (controlOf (planIn P) s)))
       (sought-tied P R s K) (by-sought (soughtBy s) refl)
 
@@ -258,16 +281,13 @@ module _ (P : List ℕ) (R : Ready P) (s : List ℕ) (K : Kept (planIn P) s)
   -- the clock comes to the due instant, which is handled
   instant-tied : (d : ℕ) → due (planIn P) (coreOf (planIn P) s) ≡ rules.at d
       → Agrees (planIn P)
-      (record {
-        answer = stepAnswer (handledBy P d (soughtBy (advanceBy P d s)) (advanceBy P d s) .answer);
-        cells = handledBy P d (soughtBy (advanceBy P d s)) (advanceBy P d s) .cells;
-      })
+      (stepped (handledBy P d (soughtBy (advanceBy P d s)) (advanceBy P d s)))
       (handled (planIn P) (control (planIn P)) d (sought (planIn P) (advance (planIn P) d (coreOf (planIn P) s))) (advance (planIn P) d (coreOf (planIn P) s))
       (controlOf (planIn P) s))
   instant-tied d e =
       subst₂
       (λ (c : Core) (σ : Control). Agrees (planIn P)
-      (record { answer = stepAnswer (handledBy P d (soughtBy r) r .answer); cells = handledBy P d (soughtBy r) r .cells })
+      (stepped (handledBy P d (soughtBy r) r))
       (handled (planIn P) (control (planIn P)) d (sought (planIn P) c) c σ))
       (a .core) (a .control) (handled-tied P R d r (a .kept) ok counting)
     where
@@ -294,14 +314,14 @@ module _ (P : List ℕ) (R : Ready P) (s : List ℕ) (K : Kept (planIn P) s)
           (turn-counts (planIn P) (R .drawn .figures) (control (planIn P)) (control-follows (planIn P) (R .drawn)) (hubOf (planIn P) s) G d c q))
 
   due-step : (t : ℕ) (x : Due) → dueBy (planIn P) s ≡ x
-      → Agrees (planIn P) (record { answer = stepAnswer (stepDue P x t s .answer); cells = stepDue P x t s .cells })
+      → Agrees (planIn P) (stepped (stepDue P x t s))
       (stepAt (planIn P) (control (planIn P)) (dueIn x) t (hubOf (planIn P) s))
   unfolding stepDue stepAnswer
   due-step t Never e = record { answer = refl; left = unchanged P R s K }
   due-step t (At d) e = go (which (ltb d t))
     where
       go : Which (ltb d t)
-          → Agrees (planIn P) (record { answer = stepAnswer (stepDue P (At d) t s .answer); cells = stepDue P (At d) t s .cells })
+          → Agrees (planIn P) (stepped (stepDue P (At d) t s))
           (stepAt (planIn P) (control (planIn P)) (rules.at d) t (hubOf (planIn P) s))
       go (yes′ l) = rw l (instant-tied d (sym (due-tied P R s K) ∙ ap dueIn e))
       go (no′ l) = rw l (record { answer = refl; left = unchanged P R s K })

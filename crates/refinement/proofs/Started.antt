@@ -19,12 +19,14 @@ use Rattle.ports.specs.Mask.{digit}
 use Rattle.cells.specs.Layout.{cells, standing-cell, requestCell, forceCell, latestCell, grantedCell, classOf, requestOf, requestCode, shareOf}
 use Rattle.cells.specs.Decode.{planIn, isNode, coreOf, controlOf}
 use Rattle.cells.specs.Masks.{stands}
+use Rattle.cells.specs.Waits.{turnAll, startBy}
 use Rattle.cells.specs.Build.{buildMasks}
 use Rattle.cells.specs.Frames.{startCells, startNodes, startFrame, newFrame, advanceBy}
 use Rattle.refinement.specs.Kept.{Ready, countsOf, Kept, standingIn}
 use Rattle.refinement.proofs.Same.{core-same, control-same}
 use Rattle.refinement.proofs.Changed.{Change, KeptBut, kept-but, mended-kept, other-cell}
 use Rattle.refinement.proofs.Requested.{Left, own-field, core-path, change-but, change-control, change-core}
+use Rattle.refinement.proofs.OtherTimes.{all-other, other-left}
 use Rattle.refinement.proofs.Built.{shownIn, AllCount, built}
 use Rattle.refinement.proofs.Headed.{headed, clock-left}
 
@@ -345,14 +347,15 @@ module _ (P : List ℕ) (R : Ready P) where
       go : Which (newFrame (planIn P) t s)
           → Left (planIn P) (advanceBy P t s) (advance (planIn P) t (coreOf (planIn P) s)) (controlOf (planIn P) s)
       go (yes′ e) =
-          let l = frame-left s K in
-          let r = startFrame P s in
-          let m = clock-left (planIn P) r (l .kept) t in
+          let turned = turnAll P (startBy P s) s in
+          let o = other-left (planIn P) (R .drawn) s turned (all-other P (startBy P s) s) K in
+          let l = frame-left turned (o .kept) in
+          let m = clock-left (planIn P) (startFrame P turned) (l .kept) t in
           rw e
           (record {
             kept = m .kept;
-            core = m .core ∙ ap (λ (c : Core). headed t (c .line) c) (l .core) ∙ started-all t s;
-            control = m .control ∙ l .control;
+            core = m .core ∙ ap (λ (c : Core). headed t (c .line) c) (l .core ∙ ap (startedTo (planIn P .nodes)) (o .core)) ∙ started-all t s;
+            control = m .control ∙ l .control ∙ o .control;
           })
       go (no′ e) =
           let m = clock-left (planIn P) s K t in

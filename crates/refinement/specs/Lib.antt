@@ -1,3 +1,4 @@
 pub mod Kept
+pub mod Waits
 pub mod Written
 pub mod WrittenRuns

@@ -6,8 +6,9 @@
 -- Sums goes on where the values are costs of which each node has used a part:
 -- one more use adds one cost, and a share that isn't spent leaves room for it.
 -- Lengths has the bounds of the longest packet. Frames turns "t lies in frame f" into f × T ≤ t < (f + 1) × T and back.
--- Clash has the last line of a case that can't be.
+-- Clash has the last line of a case that can't be, and Rows puts the rows of a worked table together.
 pub mod Clash
+pub mod Rows
 pub mod Passes
 pub mod Sums
 pub mod Lengths

@@ -5,6 +5,7 @@
 -- on from there. Demand3 and Promised are proved over Flat and Core, of every machine that follows the flat rule,
 -- and AnyMoment uses some of Demand3; what they say of hub-by-hub control then is one citation of Control.
 -- Strict compares runs under the two defaults of request 8, and cites Demand3 and AnyMoment for both.
+-- Waits, over Core, says that the times recorded for request 1 are those that the calls and answers tell.
 pub mod Laws
 pub mod Flat
 pub mod Core
@@ -15,3 +16,4 @@ pub mod Demand3
 pub mod AnyMoment
 pub mod Promised
 pub mod Strict
+pub mod Waits

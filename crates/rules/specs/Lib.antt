@@ -18,6 +18,8 @@ pub mod Demand
 pub mod AnyMoment
 pub mod Promises
 pub mod Strict
+pub mod WaitWords
+pub mod Waits
 pub mod Sample
 pub mod Slips
 pub mod TurningSlips
@@ -25,3 +27,4 @@ pub mod Rejected
 pub mod TravelRuns
 pub mod LooksRuns
 pub mod AnyMomentRuns
+pub mod WaitRuns

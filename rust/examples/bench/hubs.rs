@@ -17,13 +17,13 @@ pub const BIT_SETS: usize = 2;
 pub struct Tables {
     pub plan: Box<ffi::Plan>,
     pub cascade: Box<ffi::Cascade>,
-    six: [u64; 6],
+    seven: [u64; 7],
 }
 
 impl Tables {
     pub fn new(plan: &Plan) -> Tables {
         let (plan_table, cascade) = (Box::new([0; PLAN_CELLS]), Box::new([0; CASCADE_CELLS]));
-        let mut tables = Tables { plan: plan_table, cascade, six: [0; 6] };
+        let mut tables = Tables { plan: plan_table, cascade, seven: [0; 7] };
         assert_eq!(archive::read(plan::draw(plan).as_bytes(), &mut tables.plan).0, 0);
         unsafe { ffi::lembuya_fresh(&mut *tables.cascade) };
         tables
@@ -32,20 +32,20 @@ impl Tables {
     /// One call as a line card makes it: what it answers stays where it was written.
     #[inline(always)]
     pub fn timed_call(&mut self, call: Call) {
-        black_box(archive::number_of(&self.plan, &mut self.cascade, call, &mut self.six));
-        black_box(&self.six);
+        black_box(archive::number_of(&self.plan, &mut self.cascade, call, &mut self.seven));
+        black_box(&self.seven);
     }
 
     fn call(&mut self, call: Call) -> Answer {
-        let mut six = [0; 6];
-        six[0] = u64::from(archive::number_of(&self.plan, &mut self.cascade, call, &mut six));
-        archive::answer(call, six).expect("an answer")
+        let mut seven = [0; 7];
+        seven[0] = u64::from(archive::number_of(&self.plan, &mut self.cascade, call, &mut seven));
+        archive::answer(call, seven).expect("an answer")
     }
 }
 
 impl Clone for Tables {
     fn clone(&self) -> Tables {
-        Tables { plan: self.plan.clone(), cascade: self.cascade.clone(), six: self.six }
+        Tables { plan: self.plan.clone(), cascade: self.cascade.clone(), seven: self.seven }
     }
 
     /// The plan's table is the same in all clones, and no call writes to it.

@@ -117,19 +117,19 @@ normal 0 1 12000 = 0
 normal 0 4 6000 = 0
 high 0 3 4000 = 16
 until 99000 = 12
-step 99000 = grant 0 1 1 13000 0
-step 99000 = grant 13000 4 1 20000 0
+step 99000 = grant 0 1 1 13000 0 0
+step 99000 = grant 13000 4 1 20000 0 13000
 step 99000 = rest 20000 0
 step 99000 = quiet
 off 99000 5 = 13
 normal 99000 2 12000 = 0
-step 100000 = grant 99000 2 1 112000 1
+step 100000 = grant 99000 2 1 112000 1 0
 step 98999 = 11
 high 100000 3 4000 = 0
 normal 100000 1 1000 = 0
 off 100000 4 = 0
-step 200000 = grant 112000 3 2 117000 2
-step 200000 = grant 117000 1 1 119000 1
+step 200000 = grant 112000 3 2 117000 2 12000
+step 200000 = grant 117000 1 1 119000 1 17000
 step 200000 = rest 119000 0
 until 200000 = 0
 ";
@@ -149,12 +149,13 @@ until 200000 = 0
 
     #[test]
     fn another_answer_is_told_with_its_line() {
-        let words = "line 22: step 99000 = grant 0 1 1 13000 0, not grant 0 1 1 13001 0";
-        assert_eq!(changed("= grant 0 1 1 13000 0", "= grant 0 1 1 13001 0"), [words]);
+        let words = "line 22: step 99000 = grant 0 1 1 13000 0 0, not grant 0 1 1 13001 0 0";
+        assert_eq!(changed("= grant 0 1 1 13000 0 0", "= grant 0 1 1 13001 0 0"), [words]);
         assert_eq!(changed("3 4000 = 16", "3 4000 = 0"), ["line 20: high 0 3 4000 = 16, not 0"]);
         assert_eq!(changed("= quiet", "= rest 20000 0"), ["line 25: step 99000 = quiet, not rest 20000 0"]);
         // A number more or less is another answer.
-        assert_eq!(changed("13000 0\n", "13000 0 0\n").len(), 1);
+        assert_eq!(changed("13000 0 0\n", "13000 0 0 0\n").len(), 1);
+        assert_eq!(changed("13000 0 0\n", "13000 0\n").len(), 1);
         assert_eq!(changed("rest 20000 0", "rest 20000").len(), 1);
     }
 

@@ -41,6 +41,8 @@ pub trait Turns {
 struct Request {
     class: Class,
     bits: u64,
+    /// Slip 1: "the time at which its standing request was first put up".
+    since: u64,
 }
 
 /// "k may have n high packets a frame, each at most b bits."
@@ -88,6 +90,8 @@ pub enum Step {
         end: u64,
         /// The moves of control.
         moves: u64,
+        /// "The grant's time less the recorded time."
+        wait: u64,
     },
     /// "A rest is handled only where a busy line ends and no request counts."
     Rest {
@@ -147,24 +151,32 @@ impl<M: Turns> Core<M> {
     /// The clock moves to t. Over several frame starts the work of one is the
     /// work of all, since no reservation comes between them.
     fn move_clock(&mut self, t: u64) {
-        let starts = self.frame_at(t) > self.frame_at(self.clock);
+        let start = self.next_start();
         self.clock = t;
-        if starts {
-            self.frame_start();
+        if t >= start {
+            self.frame_start(start);
         }
+    }
+
+    /// The start of the frame behind the clock's.
+    fn next_start(&self) -> u64 {
+        (self.frame_at(self.clock) + 1) * self.frame
     }
 
     /// "At its start, before any event or selection of that time, reservations
     /// for it come into force together and high grants of every node count from
     /// 0. Then a standing high request whose node has n = 0, or which is longer
-    /// than the b in force, becomes a normal request."
-    fn frame_start(&mut self) {
+    /// than the b in force, becomes a normal request." By slip 1 "a change of class
+    /// sets it anew, also the change at a frame's start": the time is the start's.
+    fn frame_start(&mut self, start: u64) {
         for node in &mut self.nodes {
             node.in_force = node.latest;
             node.high_grants = 0;
             if let Some(request) = &mut node.request {
-                if node.in_force.n == 0 || request.bits > node.in_force.b {
+                let unreserved = node.in_force.n == 0 || request.bits > node.in_force.b;
+                if request.class == Class::High && unreserved {
                     request.class = Class::Normal;
+                    request.since = start;
                 }
             }
         }
@@ -187,7 +199,7 @@ impl<M: Turns> Core<M> {
         } else if self.sought().is_some() {
             Some(self.clock)
         } else if self.nodes.iter().any(|node| node.request.is_some()) {
-            Some((self.frame_at(self.clock) + 1) * self.frame)
+            Some(self.next_start())
         } else {
             None
         }
@@ -219,7 +231,16 @@ impl<M: Turns> Core<M> {
         // "The line is busy from a grant at s until s + b + O."
         let end = time + request.bits + self.overhead;
         self.line = Some(end);
-        Ok(Step::Grant { time, node: k, class, end, moves })
+        Ok(Step::Grant { time, node: k, class, end, moves, wait: time - request.since })
+    }
+
+    /// A request stands at the node in this place from the clock on. By slip 1 "a
+    /// replacing request of the same class keeps that time, and a change of class
+    /// sets it anew".
+    fn put_up(&mut self, k: usize, class: Class, bits: u64) {
+        let replaced = self.nodes[k].request.filter(|request| request.class == class);
+        let since = replaced.map_or(self.clock, |request| request.since);
+        self.nodes[k].request = Some(Request { class, bits, since });
     }
 
     /// `(normal t k b)`: "node k's request stands, in place of any earlier one
@@ -229,7 +250,7 @@ impl<M: Turns> Core<M> {
         let k = self.row_13(k)?;
         self.row_15(b)?;
         self.move_clock(t);
-        self.nodes[k].request = Some(Request { class: Class::Normal, bits: b });
+        self.put_up(k, Class::Normal, b);
         Ok(())
     }
 
@@ -241,7 +262,7 @@ impl<M: Turns> Core<M> {
         let in_force = self.in_force_at(t, k);
         let class = class_put_up(self.strict, in_force.n, in_force.b, b)?;
         self.move_clock(t);
-        self.nodes[k].request = Some(Request { class, bits: b });
+        self.put_up(k, class, b);
         Ok(())
     }
 

@@ -97,6 +97,8 @@ pub struct Fast {
     normal_pointer: u8,
     high_pointer: u8,
     bits: [u16; 256],
+    /// When the bit in the set of its class rose.
+    since: [u64; 256],
     high_grants: [u8; 256],
     in_force: Reservations,
     latest: Reservations,
@@ -127,6 +129,7 @@ impl Fast {
             normal_pointer: 0,
             high_pointer: 0,
             bits: [0; 256],
+            since: [0; 256],
             high_grants: [0; 256],
             in_force: none.clone(),
             latest: none,
@@ -174,6 +177,7 @@ impl Fast {
 
     #[cold]
     fn frame_start(&mut self) {
+        let start = self.next_start;
         self.next_start = (self.clock / self.frame + 1) * self.frame;
         self.below = self.reserved;
         self.high_grants = [0; 256];
@@ -191,6 +195,7 @@ impl Fast {
                 if self.in_force.n[place] == 0 || self.bits[place] > self.in_force.b[place] {
                     self.high.drop(k);
                     self.normal.put(k);
+                    self.since[place] = start;
                 }
             }
         }
@@ -229,7 +234,8 @@ impl Fast {
         self.standing -= 1;
         self.busy = true;
         self.end = time + u64::from(self.bits[usize::from(k)]) + self.overhead;
-        Answer::Grant { time, node: u64::from(k) + 1, class, end: self.end, moves: 0 }
+        let wait = time - self.since[usize::from(k)];
+        Answer::Grant { time, node: u64::from(k) + 1, class, end: self.end, moves: 0, wait }
     }
 
     #[inline]
@@ -265,6 +271,9 @@ impl Fast {
             Class::Normal => (&mut self.normal, &mut self.high),
             Class::High => (&mut self.high, &mut self.normal),
         };
+        if !of.has(k) {
+            self.since[usize::from(k)] = self.clock;
+        }
         of.put(k);
         other.drop(k);
     }

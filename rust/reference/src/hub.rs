@@ -44,7 +44,7 @@ pub enum Answer {
     /// Refused, with the row's number.
     Refused(u32),
     /// The step granted.
-    Grant { time: u64, node: u64, class: Class, end: u64, moves: u64 },
+    Grant { time: u64, node: u64, class: Class, end: u64, moves: u64, wait: u64 },
     /// The step handled the end of a busy line, and no request counts.
     Rest { time: u64, moves: u64 },
     /// The step found no instant due before its bound.
@@ -55,8 +55,8 @@ impl Answer {
     /// The answer with 0 moves, to compare hubs that have no control.
     pub fn without_moves(self) -> Answer {
         match self {
-            Answer::Grant { time, node, class, end, .. } => {
-                Answer::Grant { time, node, class, end, moves: 0 }
+            Answer::Grant { time, node, class, end, wait, .. } => {
+                Answer::Grant { time, node, class, end, moves: 0, wait }
             }
             Answer::Rest { time, .. } => Answer::Rest { time, moves: 0 },
             other => other,
@@ -68,6 +68,24 @@ impl Answer {
         match self {
             Answer::Grant { moves, .. } | Answer::Rest { moves, .. } => moves,
             _ => 0,
+        }
+    }
+
+    /// The answer with this wait in place of its own, if it is a grant.
+    pub fn with_wait(self, wait: u64) -> Answer {
+        match self {
+            Answer::Grant { time, node, class, end, moves, .. } => {
+                Answer::Grant { time, node, class, end, moves, wait }
+            }
+            other => other,
+        }
+    }
+
+    /// The wait of a grant.
+    pub fn wait(self) -> Option<u64> {
+        match self {
+            Answer::Grant { wait, .. } => Some(wait),
+            _ => None,
         }
     }
 }
@@ -114,8 +132,8 @@ impl<M: Turns> Hub<M> {
 
 fn answer(step: Result<Step, u32>) -> Answer {
     match step {
-        Ok(Step::Grant { time, node, class, end, moves }) => {
-            Answer::Grant { time, node: node as u64, class, end, moves }
+        Ok(Step::Grant { time, node, class, end, moves, wait }) => {
+            Answer::Grant { time, node: node as u64, class, end, moves, wait }
         }
         Ok(Step::Rest { time, moves }) => Answer::Rest { time, moves },
         Ok(Step::Quiet) => Answer::Quiet,

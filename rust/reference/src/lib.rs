@@ -11,7 +11,7 @@
 //! - [`hub`], [`log`]: the six calls and their answers; the whole program.
 //! - [`fast`]: the flat hub again, written for speed.
 //! - [`peer`]: control again, written for speed.
-//! - [`random`], [`shrink`], [`demand3`]: tools to try a hub with.
+//! - [`random`], [`shrink`], [`demand3`], [`waits`]: tools to try a hub with.
 
 #![deny(unsafe_code)]
 #![warn(missing_docs)]
@@ -28,3 +28,4 @@ pub mod plan;
 pub mod random;
 pub mod shrink;
 pub mod text;
+pub mod waits;

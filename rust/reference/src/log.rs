@@ -70,11 +70,12 @@ pub fn steps(hub: &mut impl Calls, t: u64, mut made: impl FnMut(Answer)) {
     }
 }
 
-/// `(grant s k class end moves)` or `(rest s moves)`.
+/// `(grant s k class end moves wait)` or `(rest s moves)`.
 fn write_step(log: &mut Vec<u8>, step: Answer) {
     match step {
-        Answer::Grant { time, node, class, end, moves } => {
-            write_line(log, format_args!("(grant {time} {node} {} {end} {moves})", class.number()));
+        Answer::Grant { time, node, class, end, moves, wait } => {
+            let class = class.number();
+            write_line(log, format_args!("(grant {time} {node} {class} {end} {moves} {wait})"));
         }
         Answer::Rest { time, moves } => write_line(log, format_args!("(rest {time} {moves})")),
         _ => {}

@@ -329,7 +329,8 @@ fn a_request_taken_as_normal_is_no_wait() {
 fn step_answer(line: &str) -> Option<Answer> {
     if let Some(grant) = numbers(line, "(grant ") {
         let class = if grant[2] == 2 { Class::High } else { Class::Normal };
-        Some(Answer::Grant { time: grant[0], node: grant[1], class, end: grant[3], moves: grant[4] })
+        let [time, node, _, end, moves, wait] = grant[..] else { panic!("{line}") };
+        Some(Answer::Grant { time, node, class, end, moves, wait })
     } else {
         numbers(line, "(rest ").map(|rest| Answer::Rest { time: rest[0], moves: rest[1] })
     }

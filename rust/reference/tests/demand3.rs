@@ -181,7 +181,8 @@ impl Any {
         }
         let k = self.random.place(self.asked.len());
         let class = self.asked[k].take().unwrap_or(Class::High);
-        Answer::Grant { time, node: k as u64 + 1, class, end: time + self.random.below(30_000), moves }
+        let end = time + self.random.below(30_000);
+        Answer::Grant { time, node: k as u64 + 1, class, end, moves, wait: 0 }
     }
 }
 

@@ -111,7 +111,7 @@ fn a_framing_line_among_the_events() {
         let text = format!("{plan}(framing 3)\n(normal 0 9 512)\n(framing 5)\n(normal 0 1 512)\n(until 1)\n");
         let refused = [(first, 1), (first + 1, 13), (first + 2, 1)];
         let refused = refused.map(|(line, number)| format!("(refused {line} {number})\n")).concat();
-        let expected = format!("(nodes 4 hubs 2)\n{refused}(grant 0 1 1 1512 0)\n");
+        let expected = format!("(nodes 4 hubs 2)\n{refused}(grant 0 1 1 1512 0 0)\n");
         assert_eq!(String::from_utf8(log(text.as_bytes())), Ok(expected));
     }
 }

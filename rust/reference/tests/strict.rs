@@ -18,12 +18,14 @@ fn the_log_of_document_01() {
     let events = "(reserve 0 3 2 4000)\n(normal 0 1 12000)\n(normal 0 4 6000)\n(high 0 3 4000)\n\
         (normal 99000 2 12000)\n(high 100000 3 4000)\n(normal 100000 1 1000)\n(until 200000)\n";
     let nodes = "(nodes 4 hubs 2)\n";
-    let behind = "(grant 99000 2 1 112000 1)\n(grant 112000 3 2 117000 2)\n(grant 117000 1 1 119000 1)\n(rest 119000 0)\n";
+    let behind = "(grant 99000 2 1 112000 1 0)\n(grant 112000 3 2 117000 2 12000)\n\
+        (grant 117000 1 1 119000 1 17000)\n(rest 119000 0)\n";
     let text = format!("{PLAN}{events}");
-    let refused = "(refused 16 16)\n(grant 0 1 1 13000 0)\n(grant 13000 4 1 20000 0)\n(rest 20000 0)\n";
+    let refused = "(refused 16 16)\n(grant 0 1 1 13000 0 0)\n(grant 13000 4 1 20000 0 13000)\n\
+        (rest 20000 0)\n";
     logged(&text, &format!("{nodes}{refused}{behind}"));
-    let taken =
-        "(grant 0 1 1 13000 0)\n(grant 13000 3 1 18000 1)\n(grant 18000 4 1 25000 1)\n(rest 25000 0)\n";
+    let taken = "(grant 0 1 1 13000 0 0)\n(grant 13000 3 1 18000 1 13000)\n\
+        (grant 18000 4 1 25000 1 18000)\n(rest 25000 0)\n";
     logged(&by_default(&text), &format!("{nodes}{taken}{behind}"));
 }
 

@@ -94,7 +94,7 @@ fn the_line_among_the_events() {
     let events = "(strict)\n(high 0 1 512)\n(strict)\n(until 1)\n";
     let expected = "(nodes 4 hubs 2)\n(refused 13 1)\n(refused 14 16)\n(refused 15 1)\n";
     logged(&format!("{PLAN}{events}"), expected);
-    let expected = "(nodes 4 hubs 2)\n(refused 12 1)\n(refused 14 1)\n(grant 0 1 1 1512 0)\n";
+    let expected = "(nodes 4 hubs 2)\n(refused 12 1)\n(refused 14 1)\n(grant 0 1 1 1512 0 0)\n";
     logged(&format!("{}{events}", by_default(PLAN)), expected);
 }
 

@@ -2,24 +2,19 @@
 
 mod common;
 
-use common::{control, flat, framed, numbers, PLAN};
+use common::{control, flat, framed, numbers, without_last, without_waits, PLAN};
 use reference::fast::Fast;
 use reference::log::{log, log_of};
 use reference::peer::{self, Peer};
 use reference::plan::{draw, read, Framing, Taken};
 use reference::random::{plans, texts, Random};
 use reference::shrink::shrink;
+use reference::waits::Told;
 use std::collections::BTreeMap;
 
-/// A log without the moves of its grants and rests.
+/// A log without the moves of its grants and rests, and without waits.
 fn without_moves(log: &[u8]) -> Vec<u8> {
-    let mut out = Vec::new();
-    for line in log.split_inclusive(|&byte| byte == b'\n') {
-        let moves = line.starts_with(b"(grant") || line.starts_with(b"(rest");
-        let behind = line.iter().rposition(|&byte| byte == b' ').filter(|_| moves).unwrap_or(line.len());
-        out.extend_from_slice(&line[..behind]);
-    }
-    out
+    without_last(&without_waits(log), &["(grant", "(rest"])
 }
 
 #[test]
@@ -50,6 +45,7 @@ fn random_texts_have_one_log() {
         assert_eq!(by_control, log_of(&text, control));
         assert!(by_control == log_of(&text, Peer::new), "seed {seed}");
         assert!(by_control == peer::log::log(&text), "seed {seed}");
+        assert!(by_control == log_of(&text, |plan| Told::new(plan, control(plan))), "seed {seed}");
         assert!(without_moves(&by_control) == without_moves(&log_of(&text, flat)), "seed {seed}");
         assert!(without_moves(&by_control) == without_moves(&log_of(&text, Fast::new)), "seed {seed}");
         let cut = &text[..text.len().min(65_536)];

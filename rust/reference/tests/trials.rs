@@ -192,7 +192,7 @@ fn m11_a_change_of_class_turns_at_the_nearest_hub() {
             let t = if i == 0 { start } else { start - 1999 };
             let ask = if class == 1 { Normal { t, k, b: 1000 } } else { High { t, k, b: 1000 } };
             assert_eq!(hub.call(ask), Taken);
-            let expected = grant(start, k, class, start + 2000, moves[i as usize]);
+            let expected = grant(start, k, class, start + 2000, moves[i as usize]).with_wait(start - t);
             assert_eq!(hub.call(Step { t: start + 1 }), expected, "{turning:?}");
         }
         assert_eq!(hub.call(ALL), Rest { time: 114_000, moves: 2 });

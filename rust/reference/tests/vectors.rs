@@ -2,12 +2,13 @@
 
 mod common;
 
-use common::{by_default, texts, texts_now, vectors};
+use common::{by_default, control, texts, texts_by, texts_now, vectors, without_waits};
 use reference::control::{Control, Turning};
 use reference::hub::Hub;
 use reference::log::{log, log_of};
 use reference::peer;
 use reference::plan::Plan;
+use reference::waits::Told;
 use std::path::PathBuf;
 
 /// So many texts have the logs that stand beside them.
@@ -20,19 +21,40 @@ fn logs_are_given(texts: Vec<PathBuf>, count: usize, log: impl Fn(&[u8]) -> Vec<
 
 #[test]
 fn every_log_is_the_one_given() {
-    logs_are_given(texts_now(), 116, log);
-    logs_are_given(texts_now(), 116, peer::log::log);
+    logs_are_given(texts_now(), 117, log);
+    logs_are_given(texts_now(), 117, peer::log::log);
+    logs_are_given(texts_now(), 117, |text| log_of(text, |plan| Told::new(plan, control(plan))));
 }
 
-/// Strict and by document 01's own rule 2 every log is the one given before slips
-/// 4 and 8.
+/// Slip 1: "Grants and moves are unaffected." Without waits every log is the one
+/// given before that slip.
+#[test]
+fn every_log_without_waits_is_the_one_given_before() {
+    logs_are_given(texts_by(|number| number != "1"), 116, |text| without_waits(&log(text)));
+}
+
+/// All of its texts but one stood before as they are now.
+#[test]
+fn the_texts_of_slip_1_are_the_earlier_ones() {
+    let read = |path: &PathBuf| std::fs::read(path).unwrap();
+    let mut same = 0;
+    for path in texts_by(|number| number != "1") {
+        let now = vectors().join("after-1").join(path.file_name().unwrap());
+        assert!(read(&now) == read(&path), "{now:?}");
+        same += 1;
+    }
+    assert_eq!((same, texts(&vectors().join("after-1")).len()), (116, 117));
+}
+
+/// Strict, by document 01's own rule 2 and without waits every log is the one given
+/// before slips 4, 8 and 1.
 #[test]
 fn every_log_by_the_root_is_the_one_given_before() {
     let by_root = |text: &[u8]| {
-        log_of(text, |plan| {
+        without_waits(&log_of(text, |plan| {
             let plan = Plan { strict: true, ..plan.clone() };
             Hub::new(&plan, Control::turning(&plan, Turning::Root))
-        })
+        }))
     };
     logs_are_given(texts(&vectors()), 53, by_root);
 }

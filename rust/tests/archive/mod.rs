@@ -85,18 +85,18 @@ pub fn five(call: Call, mut junk: impl FnMut() -> u64) -> [u64; 5] {
     of_crate(call).fields().map(|number| number.unwrap_or_else(&mut junk))
 }
 
-/// The answer that six numbers are, in a list an event's too; none where they are no answer to this call.
-pub fn answer(call: Call, six: [u64; 6]) -> Option<Answer> {
+/// The answer that seven numbers are, in a list an event's too; none where they are no answer to this call.
+pub fn answer(call: Call, seven: [u64; 7]) -> Option<Answer> {
     let step = matches!(call, Call::Step { .. });
-    match six {
-        [0, 0, 0, 0, 0, 0] if !step => Some(Answer::Taken),
-        [row @ 11..=17, 0, 0, 0, 0, 0] => Some(Answer::Refused(row as u32)),
-        [1, time, node, class @ 1..=2, end, moves] if step => {
+    match seven {
+        [0, 0, 0, 0, 0, 0, 0] if !step => Some(Answer::Taken),
+        [row @ 11..=17, 0, 0, 0, 0, 0, 0] => Some(Answer::Refused(row as u32)),
+        [1, time, node, class @ 1..=2, end, moves, wait] if step => {
             let class = if class == 1 { Class::Normal } else { Class::High };
-            Some(Answer::Grant { time, node, class, end, moves })
+            Some(Answer::Grant { time, node, class, end, moves, wait })
         }
-        [2, time, 0, 0, 0, moves] if step => Some(Answer::Rest { time, moves }),
-        [3, 0, 0, 0, 0, 0] if step => Some(Answer::Quiet),
+        [2, time, 0, 0, 0, moves, 0] if step => Some(Answer::Rest { time, moves }),
+        [3, 0, 0, 0, 0, 0, 0] if step => Some(Answer::Quiet),
         _ => None,
     }
 }
@@ -117,9 +117,9 @@ pub fn run(text: &[u8], plan: &mut ffi::Plan, cascade: &mut ffi::Cascade, log: &
     (number, end[0])
 }
 
-/// One call by the archive's function for it: its number, and a step's six numbers in `six`.
+/// One call by the archive's function for it: its number, and a step's seven numbers in `seven`.
 #[inline(always)]
-pub fn number_of(plan: &ffi::Plan, cascade: &mut ffi::Cascade, call: Call, six: &mut [u64; 6]) -> u32 {
+pub fn number_of(plan: &ffi::Plan, cascade: &mut ffi::Cascade, call: Call, seven: &mut [u64; 7]) -> u32 {
     unsafe {
         match call {
             Call::Normal { t, k, b } => ffi::lembuya_normal(plan, cascade, t, k, b),
@@ -127,24 +127,24 @@ pub fn number_of(plan: &ffi::Plan, cascade: &mut ffi::Cascade, call: Call, six: 
             Call::Off { t, k } => ffi::lembuya_off(plan, cascade, t, k),
             Call::Reserve { t, k, n, b } => ffi::lembuya_reserve(plan, cascade, t, k, n, b),
             Call::Until { t } => ffi::lembuya_until(plan, cascade, t),
-            Call::Step { t } => ffi::lembuya_step(plan, cascade, t, six),
+            Call::Step { t } => ffi::lembuya_step(plan, cascade, t, seven),
         }
     }
 }
 
-/// One call, as its six numbers.
+/// One call, as its seven numbers.
 #[inline]
-pub fn single(plan: &ffi::Plan, cascade: &mut ffi::Cascade, call: Call) -> [u64; 6] {
-    const UNTOLD: [u64; 6] = [u64::MAX; 6];
-    let mut six = UNTOLD;
-    let number = u64::from(number_of(plan, cascade, call, &mut six));
+pub fn single(plan: &ffi::Plan, cascade: &mut ffi::Cascade, call: Call) -> [u64; 7] {
+    const UNTOLD: [u64; 7] = [u64::MAX; 7];
+    let mut seven = UNTOLD;
+    let number = u64::from(number_of(plan, cascade, call, &mut seven));
     // A grant, a rest or quiet.
     if matches!((call, number), (Call::Step { .. }, 1..=3)) {
-        assert_eq!(number, six[0], "a step returns its case");
-        return six;
+        assert_eq!(number, seven[0], "a step returns its case");
+        return seven;
     }
-    assert_eq!(six, UNTOLD, "a refused step leaves what it was lent");
-    [number, 0, 0, 0, 0, 0]
+    assert_eq!(seven, UNTOLD, "a refused step leaves what it was lent");
+    [number, 0, 0, 0, 0, 0, 0]
 }
 
 /// What `lembuya_list` answers.
@@ -203,8 +203,8 @@ impl Archive {
         (plan, cascade)
     }
 
-    /// A call's six numbers.
-    pub fn six(&mut self, call: Call) -> [u64; 6] {
+    /// A call's seven numbers.
+    pub fn seven(&mut self, call: Call) -> [u64; 7] {
         let (plan, cascade) = self.tables();
         single(plan, cascade, call)
     }
@@ -212,8 +212,8 @@ impl Archive {
 
 impl Calls for Archive {
     fn call(&mut self, call: Call) -> Answer {
-        let six = self.six(call);
-        answer(call, six).unwrap_or_else(|| panic!("no answer to {call:?}: {six:?}"))
+        let seven = self.seven(call);
+        answer(call, seven).unwrap_or_else(|| panic!("no answer to {call:?}: {seven:?}"))
     }
 }
 

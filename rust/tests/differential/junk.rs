@@ -94,6 +94,9 @@ fn cascade_cell(random: &mut Random, at: usize) -> u32 {
             mask if mask < cascade::MASKS => random.one_of(&[0, 1, 1 << 31, u32::MAX, any]),
             _ => random.below(70) as u32,
         },
+        // A time at which a request was put up is mostly below 10^15 too, and often in a busy hub's first frames.
+        _ if at >= cascade::node(1, cascade::PUT_UP_HIGH) => random.one_of(&[0, 0, any % 250_000]),
+        _ if at >= cascade::node(1, cascade::PUT_UP) => random.number() as u32,
         _ => random.one_of(&[0, 1, 64, 65_536, 66_048, 131_072, 131_584, any]),
     }
 }
@@ -136,14 +139,45 @@ fn any_call(random: &mut Random, table: &ffi::Cascade) -> Call {
 }
 
 /// An answer that some table could get: a refused or quiet call leaves the table.
-fn plausible(call: Call, six: [u64; 6], changed: bool) -> bool {
-    match (call, six[0]) {
-        (Call::Step { t }, 1) => six[1] < t && (1..=2).contains(&six[3]) && six[2] <= 256,
-        (Call::Step { t }, 2) => six[1] < t && six[2..5] == [0, 0, 0],
-        (Call::Step { .. }, 3 | 11) | (_, 11..=17) => six[1..] == [0; 5] && !changed,
+fn plausible(call: Call, seven: [u64; 7], changed: bool) -> bool {
+    match (call, seven[0]) {
+        (Call::Step { t }, 1) => seven[1] < t && (1..=2).contains(&seven[3]) && seven[2] <= 256,
+        (Call::Step { t }, 2) => seven[1] < t && seven[2..5] == [0, 0, 0] && seven[6] == 0,
+        (Call::Step { .. }, 3 | 11) | (_, 11..=17) => seven[1..] == [0; 6] && !changed,
         (Call::Step { .. }, _) => false,
         (_, row) => row == 0,
     }
+}
+
+/// From when on a grant's wait counts, and what that time is. It is the recorded one, but for a high request of a node of the plan
+/// that the start of the frame behind the clock's makes normal: then it is that start. Node 0 has no record.
+fn counted_from(
+    table: &ffi::Plan,
+    before: &ffi::Cascade,
+    time: u64,
+    node: u64,
+) -> (Option<u64>, &'static str) {
+    let frame_of = |t: u64| t.checked_div(table[plan::FRAME].into()).unwrap_or(0);
+    let clock = cascade::time(before, cascade::CLOCK);
+    let k = node as usize;
+    if k == 0 {
+        return (None, "no node");
+    }
+    let [request, latest] = [cascade::REQUESTS, cascade::LATEST].map(|at| before[cascade::node(k, at)]);
+    let turns = request >= 131_072 && (latest < 65_536 || request % 65_536 > latest % 65_536);
+    if frame_of(clock) < frame_of(time) && turns && k as u32 <= table[plan::NODE_COUNT] {
+        return (Some((frame_of(clock) + 1) * u64::from(table[plan::FRAME])), "a frame's start");
+    }
+    let recorded = cascade::put_up(before, k);
+    (Some(recorded), if recorded > time { "a later record" } else { "a record" })
+}
+
+/// A grant's wait on any table: 0 where it counts from a time behind the grant.
+fn check_wait(table: &ffi::Plan, before: &ffi::Cascade, seven: [u64; 7], found: &mut Found) -> bool {
+    let [_, time, node, _, _, _, wait] = seven;
+    let (from, what) = counted_from(table, before, time, node);
+    found.count(format!("wait from {what}"));
+    wait == from.map_or(0, |from| time.saturating_sub(from))
 }
 
 /// Two pairs of tables of random content that every call must treat alike, and whether their plans are strict. They are equal but
@@ -181,22 +215,24 @@ fn try_junk(seed: u64, found: &mut Found) {
     for _ in 0..20 {
         let before = *one.cascade();
         let call = any_call(&mut random, &before);
-        let six = one.six(call);
-        let what = || format!("seed {seed}: {for_plan:?}, {for_cascade:?}, {call:?}: {six:?}");
-        assert!(plausible(call, six, before != *one.cascade()), "{}", what());
-        let mut again = [9; 6];
+        let seven = one.seven(call);
+        let what = || format!("seed {seed}: {for_plan:?}, {for_cascade:?}, {call:?}: {seven:?}");
+        assert!(plausible(call, seven, before != *one.cascade()), "{}", what());
+        let grant = matches!((call, seven[0]), (Call::Step { .. }, 1));
+        assert!(!grant || check_wait(one.plan(), &before, seven, found), "the wait, {}", what());
+        let mut again = [9; 7];
         if random.chance(70) {
-            again = other.six(call);
+            again = other.seven(call);
         } else {
             let (plan_table, cascade) = other.tables();
             assert_eq!(archive::list(plan_table, cascade, &five(call, || 0), &mut again), 0, "{}", what());
         }
-        assert_eq!(again, six, "{}", what());
+        assert_eq!(again, seven, "{}", what());
         assert!(one.cascade() == other.cascade(), "{}", what());
         let name = if matches!(call, Call::Step { .. }) { "step" } else { "event" };
-        found.count(format!("{name} {}", six[0]));
-        if let (Call::High { .. }, 0 | 16) = (call, six[0]) {
-            found.count(format!("high {}, {}", six[0], if strict { "strict" } else { "default" }));
+        found.count(format!("{name} {}", seven[0]));
+        if let (Call::High { .. }, 0 | 16) = (call, seven[0]) {
+            found.count(format!("high {}, {}", seven[0], if strict { "strict" } else { "default" }));
         }
         found.add("calls", 2);
     }
@@ -243,5 +279,7 @@ fn junk_tables() {
         ["event 0", "event 11", "event 12", "event 13", "event 14", "event 15", "event 16", "event 17"];
     found.assert_met(200, &cases);
     found.assert_met(200, &["step 1", "step 2", "step 3", "step 11"]);
+    found.assert_met(200, &["wait from a record", "wait from a later record", "wait from no node"]);
+    found.assert_met(20, &["wait from a frame's start"]);
     found.assert_met(50, &["high 0, strict", "high 16, strict", "high 0, default", "high 16, default"]);
 }

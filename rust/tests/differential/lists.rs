@@ -56,11 +56,11 @@ fn same_answers(plan: &Plan, list: &[(Call, Answer)]) -> Result<(), String> {
     let most_moves = 4 * (plan.levels() as u64 - 1);
     for (place, &(call, expected)) in list.iter().enumerate() {
         let before = *hub.cascade();
-        let six = hub.six(call);
-        let found = answer(call, six);
+        let seven = hub.seven(call);
+        let found = answer(call, seven);
         let wrong = |what: &str| {
             Err(format!(
-                "{what} at call {place}: {call:?}\nreference: {expected:?}\narchive: {found:?}, {six:?}"
+                "{what} at call {place}: {call:?}\nreference: {expected:?}\narchive: {found:?}, {seven:?}"
             ))
         };
         if found != Some(expected) {
@@ -101,23 +101,23 @@ fn through_list(plan: &Plan, list: &[(Call, Answer)], left: &ffi::Cascade) -> Re
             five_numbers.copy_from_slice(&five(call, || random.number()));
         }
         let spare = random.place(8);
-        let mut answers = Fenced::new(length * 6 + spare);
-        let answers = answers.last(length * 6 + spare);
+        let mut answers = Fenced::new(length * 7 + spare);
+        let answers = answers.last(length * 7 + spare);
         answers.fill(u64::MAX);
         let (plan_table, cascade) = hub.tables();
         let number = archive::list(plan_table, cascade, calls, answers);
         if number != 0 {
             return Err(format!("lembuya_list answers {number}"));
         }
-        for (place, (six, &(call, expected))) in answers.chunks_exact(6).zip(part).enumerate() {
-            if answer(call, six.try_into().unwrap()) != Some(expected) {
+        for (place, (seven, &(call, expected))) in answers.chunks_exact(7).zip(part).enumerate() {
+            if answer(call, seven.try_into().unwrap()) != Some(expected) {
                 let place = list.len() - rest.len() + place;
                 return Err(format!(
-                    "in a list, at call {place}: {call:?}\nreference: {expected:?}\narchive: {six:?}"
+                    "in a list, at call {place}: {call:?}\nreference: {expected:?}\narchive: {seven:?}"
                 ));
             }
         }
-        if answers[length * 6..].iter().any(|&number| number != u64::MAX) {
+        if answers[length * 7..].iter().any(|&number| number != u64::MAX) {
             return Err("a number behind the answers was changed".into());
         }
         rest = behind;
@@ -161,6 +161,12 @@ fn count_answer(found: &mut Found, plan: &Plan, answer: &Answer) {
     if answer.moves() >= 12 {
         found.count("12 moves or more");
     }
+    match answer.wait() {
+        None => {}
+        Some(0) => found.count("wait 0"),
+        Some(wait) if wait > plan.frame => found.count("wait above a frame"),
+        Some(_) => found.count("wait above 0"),
+    }
 }
 
 /// High requests by what was in force at their time, where no row before 16 refused them.
@@ -201,7 +207,8 @@ fn lists_of_calls() {
     let least = calls / 1_000;
     found.assert_met(least, &["row 11", "row 12", "row 13", "row 14", "row 15", "row 16", "row 17", "taken"]);
     found.assert_met(least, &["grant Normal", "grant High", "grant by framing 5 alone", "rest", "quiet"]);
-    found.assert_met(calls / 100_000, &["12 moves or more"]);
+    found.assert_met(calls / 100_000, &["12 moves or more", "wait above a frame"]);
+    found.assert_met(least, &["wait 0", "wait above 0"]);
     found.assert_met(least, &["strict, unreserved: refused", "default, unreserved: taken"]);
     found.assert_met(least, &["strict, reserved: taken", "default, reserved: taken"]);
     found.assert_met(least, &["strict, reserved: refused", "default, reserved: refused"]);

@@ -100,11 +100,11 @@ fn lists_that_are_not_done() {
     };
     for count in 0..=40 {
         // One answer's number too few, and all shorter ones.
-        for answers in (0..count * 6).step_by(if count < 8 { 1 } else { 17 }) {
+        for answers in (0..count * 7).step_by(if count < 8 { 1 } else { 17 }) {
             nothing_done(&calls[..count * 5], answers, 18);
         }
         if count > 0 {
-            nothing_done(&calls[..count * 5], count * 6 - 1, 18);
+            nothing_done(&calls[..count * 5], count * 7 - 1, 18);
         }
         // Ragged, with answers enough and without.
         for more in (1..5).filter(|_| count < 40) {

@@ -8,7 +8,7 @@ use borrow.Author.Needs.{needs}
 use lib.ListN.{length}
 use Rattle.call_list.specs.Table.{countOf, kindsFrom, Listed, listFrom}
 use Rattle.call_list.proofs.Loops.{kinds-on, list-here, list-done}
-use Rattle.call_list.proofs.Listing.{ready, not-made, all-made}
+use Rattle.call_list.proofs.Promising.{ready, not-made, all-made}
 use Rattle.call_list.proofs.list.Statement.{statement}
 use Rattle.call_list.proofs.list.Tie as tie
 
@@ -49,8 +49,8 @@ make-requires c κs =
     let a = l .before .before .before .before .before .before .args in
     (omega arith, kinds-on (a .calls .now) (countOf (a .calls .now)) (l .loop .i) (omega arith) (l .loop .inv .3) .0)
 
-put-six-requires : tie.Need-put-six-requires Inv-loop μ-loop
-put-six-requires c κs =
+put-seven-requires : tie.Need-put-seven-requires Inv-loop μ-loop
+put-seven-requires c κs =
     let l = c .before .before .before .before in
     let a = l .before .before .before .before .before .before .args in
     let w = ready (a .calls .now) (a .answers .now) (sym (l .before .before .number .ensures) ∙ l .before .if1 .left) in
@@ -71,10 +71,10 @@ loop-again c =
     let inside : l .loop .i < n = omega (arith, c .before .before .before .before .before .before .loop-test .taken) in (
       l .loop .inv .0,
       omega (arith, inside),
-      c .before .before .put-six .kept .0 ∙ l .loop .inv .2,
+      c .before .before .put-seven .kept .0 ∙ l .loop .inv .2,
       kinds-on (a .calls .now) n (l .loop .i) inside (l .loop .inv .3) .1,
       l .loop .inv .4 ∙ list-here (a .calls .now) n (l .loop .i) (a .p .now) (l .loop .s) (l .loop .answers) inside
-          ∙ rw (x .ensures .0, x .ensures .1, c .before .before .put-six .ensures),
+          ∙ rw (x .ensures .0, x .ensures .1, c .before .before .put-seven .ensures),
     )
 
 same-length-2 : tie.Need-same-length-2 Inv-loop μ-loop
@@ -101,7 +101,7 @@ list-spec =
     returns
     loop-holds
     make-requires
-    put-six-requires
+    put-seven-requires
     add-i
     loop-less
     loop-again

@@ -3,7 +3,7 @@ use Prim.Native.Nat.{_*_}
 use mathlib.Core.Path.{sym, ap, _∙_}
 use lib.ListN.{getD}
 use Rattle.call_list.specs.Table.{callAt}
-use Rattle.call_list.proofs.Numbers.{six-of}
+use Rattle.call_list.proofs.Numbers.{seven-of}
 use Rattle.call_list.proofs.Making.{event-kind, call-step, event-made}
 use borrow.Author.Needs.{needs}
 use Rattle.call_list.proofs.make.Statement.{statement}
@@ -81,7 +81,7 @@ returns-2 c =
     let w =
     event-made (a .p .now) (a .calls .now) (a .s .now) (a .i) (c .before .before .decoded .result) (c .before .before .decoded .ensures)
     (c .before .event .result) (c .before .event .last .1 .0) (c .before .event .ensures) in
-    (w .0 ∙ ap six-of (sym (c .of-number .ensures)), w .1)
+    (w .0 ∙ ap seven-of (sym (c .of-number .ensures)), w .1)
 
 pub make-spec : {M : Type 1} → statement M
 make-spec =

@@ -30,7 +30,7 @@ returns-3 c =
     rw (
       eq-eqb _ _ (c .before .before .before .if1 .left),
       sym (c .before .before .kinds .ensures) ∙ not-false _ (c .before .if2 .left),
-      lt-ltb (length (a .answers .now)) (countOf (a .calls .now) * 6) (omega arith),
+      lt-ltb (length (a .answers .now)) (countOf (a .calls .now) * 7) (omega arith),
     )
 
 returns-4 : tie.Need-returns-4
@@ -40,7 +40,7 @@ returns-4 c =
     rw (
       eq-eqb _ _ (c .before .before .before .if1 .left),
       sym (c .before .before .kinds .ensures) ∙ not-false _ (c .before .if2 .left),
-      le-ltb (length (a .answers .now)) (countOf (a .calls .now) * 6) (omega arith),
+      le-ltb (length (a .answers .now)) (countOf (a .calls .now) * 7) (omega arith),
     )
 
 pub number-spec : {M : Type 1} → statement M

@@ -9,8 +9,8 @@ use Rattle.frames.proofs.advance.Tie as tie
 new-frame-requires : tie.Need-new-frame-requires
 new-frame-requires c κs = search needs
 
-start-frame-requires : tie.Need-start-frame-requires
-start-frame-requires c κs = search needs
+start-at-requires : tie.Need-start-at-requires
+start-at-requires c κs = sym (c .before .before .new-frame .ensures) ∙ c .before .if1 .taken
 
 put-clock-requires : tie.Need-put-clock-requires
 put-clock-requires c κs = search needs
@@ -29,4 +29,4 @@ returns c =
 pub advance-spec : {M : Type 1} → statement M
 advance-spec =
     tie.close
-    (tie.spec new-frame-requires start-frame-requires put-clock-requires returns)
+    (tie.spec new-frame-requires start-at-requires put-clock-requires returns)

@@ -36,12 +36,23 @@ request-code-requires c κs =
     (c .before .before .before .if1 .left) in
     omega arith
 
-cast-put-request : tie.Need-cast-put-request
-cast-put-request c =
+cast-record : tie.Need-cast-record
+cast-record c =
     let a = c .before .before .before .before .before .before .before .before .args in
     let w =
     ask-asked (a .p .now) (a .s .now) (classOf (a .high)) (a .t) (a .k) (a .b) (c .before .before .before .before .before .before .ask-row .ensures)
     (c .before .before .before .before .before .if1 .left) in
+    omega arith
+
+record-requires : tie.Need-record-requires
+record-requires c κs = search needs
+
+cast-put-request : tie.Need-cast-put-request
+cast-put-request c =
+    let a = c .before .before .before .before .before .before .before .before .before .before .args in
+    let w =
+    ask-asked (a .p .now) (a .s .now) (classOf (a .high)) (a .t) (a .k) (a .b) (c .before .before .before .before .before .before .before .before .ask-row .ensures)
+    (c .before .before .before .before .before .before .before .if1 .left) in
     omega arith
 
 put-request-requires : tie.Need-put-request-requires
@@ -50,10 +61,13 @@ put-request-requires c κs = search needs
 returns-2 : tie.Need-returns-2
 unfolding changeBy
 returns-2 c =
-    let a = c .before .before .before .before .before .before .before .before .before .args in
-    event-taken (a .p .now) (a .s .now) (ask (classOf (a .high)) (a .t) (a .k) (a .b)) (c .before .before .before .before .before .before .before .ask-row .ensures)
-    (c .before .before .before .before .before .before .if1 .left)
-    (rw (c .before .before .request-code .ensures, c .before .before .before .before .advance .ensures) at (c .put-request .ensures))
+    let recorded = c .before .before in
+    let coded = recorded .before .before in
+    let come = coded .before .before in
+    let told = come .before .before .before in
+    let a = told .before .before .args in
+    event-taken (a .p .now) (a .s .now) (ask (classOf (a .high)) (a .t) (a .k) (a .b)) (told .ask-row .ensures) (come .before .before .if1 .left)
+    (rw (recorded .record .ensures, coded .request-code .ensures, come .advance .ensures) at (c .put-request .ensures))
 
 pub ask-spec : {M : Type 1} → statement M
 ask-spec =
@@ -64,6 +78,8 @@ ask-spec =
     advance-requires
     cast-request-code
     request-code-requires
+    cast-record
+    record-requires
     cast-put-request
     put-request-requires
     returns-2)

@@ -1,6 +1,6 @@
 -- `lembuya_step` meets its contract: what is stored in each case of what `hub::step` answers; where it refuses, nothing.
 use mathlib.Core.Path.{refl, sym, _∙_}
-use Rattle.call_list.proofs.Numbers.{stepSix}
+use Rattle.call_list.proofs.Numbers.{stepSeven}
 use Rattle.lembuya.proofs.Laws.{stored, stepped}
 use borrow.Author.Needs.{needs}
 use Rattle.lembuya.proofs.lembuya_step.Statement.{statement}
@@ -31,7 +31,7 @@ enum-known-n : tie.Need-enum-known-n
 enum-known-n c = search needs
 
 returns : tie.Need-returns
-unfolding stepSix stored
+unfolding stepSeven stored
 returns c =
     let a = c .before .before .before .before .before .before .before .args in
     let e = c .before .before .before .before .before .step .ensures in
@@ -39,7 +39,7 @@ returns c =
     stepped (a .p .now) (a .t) (a .s .now) (a .answer .now) (sym (c .before .before .before .time .given .1) ∙ e .0) (e .1) (w .0) (w .1)
 
 returns-2 : tie.Need-returns-2
-unfolding stepSix stored
+unfolding stepSeven stored
 returns-2 c =
     let a = c .before .before .before .before .before .before .before .args in
     let e = c .before .before .before .before .before .step .ensures in
@@ -47,7 +47,7 @@ returns-2 c =
     stepped (a .p .now) (a .t) (a .s .now) (a .answer .now) (sym (c .before .before .before .time2 .given .1) ∙ e .0) (e .1) (w .0) (w .1)
 
 returns-3 : tie.Need-returns-3
-unfolding stepSix stored
+unfolding stepSeven stored
 returns-3 c =
     let a = c .before .before .before .before .before .before .args in
     let e = c .before .before .before .before .step .ensures in
@@ -55,7 +55,7 @@ returns-3 c =
     stepped (a .p .now) (a .t) (a .s .now) (a .answer .now) (sym (c .before .before .enum-told .given .1) ∙ e .0) (e .1) (w .0) (w .1)
 
 returns-4 : tie.Need-returns-4
-unfolding stepSix stored
+unfolding stepSeven stored
 returns-4 c =
     let a = c .before .before .before .before .before .args in
     let e = c .before .before .before .step .ensures in

@@ -1,6 +1,6 @@
--- `put_step` meets its contract: the six stores are the definition's.
+-- `put_step` meets its contract: the seven stores are the definition's.
 use mathlib.Core.Path.{refl}
-use Rattle.call_list.specs.Table.{putSix}
+use Rattle.call_list.specs.Table.{putSeven}
 use borrow.Author.Needs.{needs}
 use Rattle.lembuya.proofs.put_step.Statement.{statement}
 use Rattle.lembuya.proofs.put_step.Tie as tie
@@ -23,8 +23,11 @@ element-write-answer-5 c = search needs
 element-write-answer-6 : tie.Need-element-write-answer-6
 element-write-answer-6 c = search needs
 
+element-write-answer-7 : tie.Need-element-write-answer-7
+element-write-answer-7 c = search needs
+
 returns : tie.Need-returns
-unfolding putSix
+unfolding putSeven
 returns c = (refl, refl)
 
 pub put-step-spec : {M : Type 1} → statement M
@@ -37,4 +40,5 @@ put-step-spec =
     element-write-answer-4
     element-write-answer-5
     element-write-answer-6
+    element-write-answer-7
     returns)

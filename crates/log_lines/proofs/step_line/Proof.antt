@@ -12,9 +12,10 @@ use Rattle.log_lines.proofs.step_line.Statement.{statement}
 use Rattle.log_lines.proofs.step_line.Tie as tie
 
 -- the line by what the answer is
-granted : (x : Step) (s k class end moves : ℕ) → x ≡ Grant s k class end moves → drawLine grant-word (s ∷ k ∷ class ∷ end ∷ moves ∷ []) ≡ stepLine x
+granted : (x : Step) (s k class end moves wait : ℕ) → x ≡ Grant s k class end moves wait
+    → drawLine grant-word (s ∷ k ∷ class ∷ end ∷ moves ∷ wait ∷ []) ≡ stepLine x
 unfolding stepLine grantLine
-granted x s k class end moves e = rw e
+granted x s k class end moves wait e = rw e
 
 rested : (x : Step) (s moves : ℕ) → x ≡ Rest s moves → drawLine rest-word (s ∷ moves ∷ []) ≡ stepLine x
 unfolding stepLine restLine
@@ -31,11 +32,11 @@ refused x n e = rw e
 enum-known-step : tie.Need-enum-known-step
 enum-known-step c = search needs
 
-cast-t19 : tie.Need-cast-t19
-cast-t19 c = search needs
-
 cast-t20 : tie.Need-cast-t20
 cast-t20 c = search needs
+
+cast-t21 : tie.Need-cast-t21
+cast-t21 c = search needs
 
 slice-aggregate-put-form : tie.Need-slice-aggregate-put-form
 slice-aggregate-put-form c = search needs
@@ -84,7 +85,9 @@ returns c =
     let a = c .before .before .before .before .before .before .before .before .before .before .args in
     let g = c .before .before .before .before .before .before .before .step .given in
     let p = c .before .before .put-form in
-    put-same-3 (a .write) (a .buffer .now) (a .at) (p .result) (p .last .1 .0) (p .ensures) (granted (a .step) (g .0 .0) (g .0 .1 .0) (g .0 .1 .1 .0) (g .0 .1 .1 .1 .0) (g .0 .1 .1 .1 .1 .0) (g .1))
+    let line =
+    granted (a .step) (g .0 .0) (g .0 .1 .0) (g .0 .1 .1 .0) (g .0 .1 .1 .1 .0) (g .0 .1 .1 .1 .1 .0) (g .0 .1 .1 .1 .1 .1 .0) (g .1) in
+    put-same-3 (a .write) (a .buffer .now) (a .at) (p .result) (p .last .1 .0) (p .ensures) line
 
 same-length-2 : tie.Need-same-length-2
 same-length-2 c = search needs
@@ -121,8 +124,8 @@ step-line-spec =
     tie.close
     (tie.spec
     enum-known-step
-    cast-t19
     cast-t20
+    cast-t21
     slice-aggregate-put-form
     slice-aggregate-put-form-2
     put-form-requires

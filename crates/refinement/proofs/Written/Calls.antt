@@ -16,6 +16,7 @@ use Rattle.cells.specs.declared.Sought.{Sought}
 use Rattle.cells.specs.declared.Sought.the-variants as seek
 use Rattle.cells.specs.Layout.{clock-cell, timeAt}
 use Rattle.cells.specs.Decode.{planIn}
+use Rattle.cells.specs.Waits.{recordSince}
 use Rattle.cells.specs.Frames.{newFrame, advanceBy}
 use Rattle.cells.specs.Instants.{dueBy, soughtBy}
 use Rattle.cells.specs.Turns.{chooseBy}
@@ -62,7 +63,7 @@ module _ (P : List ℕ) (R : Ready P) (s : List ℕ) where
 
   change-few : (call : Call) (r : List ℕ) → Named p call → changeWrites P call r ≤ mostBy p call
   unfolding changeWrites
-  change-few (ask c t k b) r w = omega (arith, request-few P R k w (putUpCode c k b r) r)
+  change-few (ask c t k b) r w = omega (arith, request-few P R k w (putUpCode c k b r) (recordSince k (putUpCode c k b r) t r))
   change-few (off t k) r w = omega (arith, removal-few P R k w r)
   change-few (reserve t k n b) r w = omega arith
   change-few (until t) r w = omega arith

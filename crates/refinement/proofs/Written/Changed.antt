@@ -16,6 +16,7 @@ use Rattle.rules.proofs.Laws.Sums.{Same, it, other, same-or-not}
 use Rattle.ports.specs.Mask.{digit}
 use Rattle.cells.specs.Layout.{maskCell, ifHub, ifNode}
 use Rattle.refinement.specs.Kept.{NoMask}
+use Rattle.refinement.specs.Waits.{OtherTimes}
 use Rattle.refinement.specs.Written.{differs, changedMasks}
 use Rattle.refinement.proofs.Walked.Frame.{digit-up}
 
@@ -67,6 +68,10 @@ wrote-stay = wrote-none (λ b g w. refl)
 -- a cell that is no mask's
 pub wrote-off : (s : List ℕ) (i v : ℕ) → NoMask i → Wrote 0 s (set s i v)
 wrote-off s i v n = wrote-none (λ b g w. getD-set-other s i (maskCell b g) v 0 (λ e. n b g w (sym e)))
+
+-- recorded times
+pub wrote-times : {s r : List ℕ} → OtherTimes s r → Wrote 0 s r
+wrote-times o = wrote-none (λ b g w. o .same (maskCell b g) (omega (arith, digit-up b, w .up)))
 
 pub wrote-then : {n m : ℕ} {s r t : List ℕ} → Wrote n s r → Wrote m r t → Wrote (m + n) s t
 wrote-then {n} {m} {s} {r} {t} first second =

@@ -29,6 +29,7 @@ use Rattle.cells.specs.declared.Sought.the-variants as seek
 use Rattle.cells.specs.Layout.{clock-cell, end-cell, busy-cell, holder-cell, class-cell, standing-cell, maskCell, pointerCell, requestCell, forceCell, latestCell, grantedCell, putTime, shareCode, unmarkedCode, markedCode}
 use Rattle.cells.specs.Decode.{planIn}
 use Rattle.cells.specs.Masks.{stands, standsIn, countsBy, maskWith, alike, mend, mendBit, mendClass, standingAfter, putRequest, grantedMore, grantNode}
+use Rattle.cells.specs.Waits.{turnAll, startBy, recordSince}
 use Rattle.cells.specs.Build.{clearMasks, showPort, showRequest, showNodes, summary, showHub, showHubs, hubsIn, buildMasks}
 use Rattle.cells.specs.Frames.{startCells, startNodes, startFrame, newFrame, advanceBy}
 use Rattle.cells.specs.Instants.{dueBy, soughtBy}
@@ -36,7 +37,8 @@ use Rattle.cells.specs.Turns.{Looked, Turned, downBy, takeBy, upBy, handUpBy, f
 use Rattle.cells.specs.Calls.{rowBy, putUpCode, changeBy, eventBy, busyUntil, resting, grantBy, restBy, handledBy, stepDue, stepBy, eventLeft, performBy}
 use Rattle.cells.specs.Written.{mendWrites, mendBitWrites, mendClassWrites, putRequestWrites, grantNodeWrites, clearWrites, showPortWrites, showNodesWrites, showHubWrites, showHubsWrites, buildWrites, advanceWrites, changeWrites, eventWrites, grantWrites, handledWrites, stepDueWrites, stepWrites, callWrites}
 use Rattle.refinement.proofs.Same.{low-no-mask, node-no-mask, pointer-no-mask}
-use Rattle.refinement.proofs.Written.Changed.{Wrote, wrote-stay, wrote-off, wrote-then, wrote-behind, wrote-before, wrote-one, wrote-if, wrote-hub, wrote-node}
+use Rattle.refinement.proofs.OtherTimes.{all-other, record-other}
+use Rattle.refinement.proofs.Written.Changed.{Wrote, wrote-stay, wrote-off, wrote-times, wrote-then, wrote-behind, wrote-before, wrote-one, wrote-if, wrote-hub, wrote-node}
 
 -- what holds of both of two holds of the one that a test chooses
 if-holds : {A : Type 0} (C : A → Type 0) (b : Bool) {x y : A} → C x → C y → C (if b then x else y)
@@ -150,9 +152,11 @@ module _ (P : List ℕ) where
   advance-counted : (t : ℕ) (s : List ℕ) → Wrote (advanceWrites P t s) s (advanceBy P t s)
   unfolding advanceBy advanceWrites startFrame
   advance-counted t s =
-      let started = startNodes (planIn P .nodes) s in
+      let turned = turnAll P (startBy P s) s in
+      let started = startNodes (planIn P .nodes) turned in
       wrote-before
-      (wrote-if (newFrame (planIn P) t s) (wrote-behind (start-same (planIn P .nodes) s) (build-counted started)) wrote-stay)
+      (wrote-if (newFrame (planIn P) t s)
+      (wrote-behind (wrote-times (all-other P (startBy P s) s)) (wrote-behind (start-same (planIn P .nodes) turned) (build-counted started))) wrote-stay)
       (put-time clock-cell t _ (omega arith))
 
   -- ---- Turns
@@ -228,7 +232,9 @@ module _ (P : List ℕ) where
 
   change-counted : (call : Call) (s : List ℕ) → Wrote (changeWrites P call s) s (changeBy P call s)
   unfolding changeBy changeWrites
-  change-counted (ask c t k b) s = request-counted k (putUpCode c k b s) s
+  change-counted (ask c t k b) s =
+      let x = putUpCode c k b s in
+      wrote-behind (wrote-times (record-other k x t s)) (request-counted k x (recordSince k x t s))
   change-counted (off t k) s = request-counted k 0 s
   change-counted (reserve t k n b) s = wrote-off s (latestCell k) (shareCode n b) (node-no-mask k 2)
   change-counted (until t) s = wrote-stay

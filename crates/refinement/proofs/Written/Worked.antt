@@ -12,6 +12,7 @@ use Rattle.cells.specs.Layout.{putTime}
 use Rattle.cells.specs.Decode.{coreOf}
 use Rattle.cells.specs.Fresh.{pointed, freshCells}
 use Rattle.cells.specs.Masks.{mend, mendBit, mendClass, putRequest, grantNode}
+use Rattle.cells.specs.Waits.{putSince, turnCells, turnNodes, turnAll, recordSince}
 use Rattle.cells.specs.Build.{clearMasks, showPort, showRequest, showNodes, showHub, showHubs, buildMasks}
 use Rattle.cells.specs.Frames.{startCells, startNodes, startFrame, advanceBy}
 use Rattle.cells.specs.Instants.{soughtBy, restingDue, dueBy}
@@ -26,6 +27,7 @@ pub as-worked : AsWorked
 unfolding
     any sum first advance deepest shows maskUpTo withPort putPort atOrAfter anyUpTo firstOf lowestFrom
     putNode putHub putPorts putRoot putFigures planOf putTime coreOf pointed freshCells
+    putSince turnCells turnNodes turnAll recordSince
     mend mendBit mendClass putRequest grantNode clearMasks showPort showRequest showNodes showHub showHubs buildMasks startCells startNodes startFrame advanceBy
     soughtBy restingDue dueBy
     downBy takeBy upBy handUpBy foundBy lookBy afterLook walkBy nearerBy nearestBy walked settled chooseBy

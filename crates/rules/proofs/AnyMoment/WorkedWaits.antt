@@ -20,23 +20,15 @@ use Rattle.rules.specs.Demand.{RunTo, by-clock, by-quiet}
 use Rattle.rules.specs.AnyMoment.{firstGrant, keptStanding, waitLimit, packetsThen, farEnough, PutUp, Served}
 use Rattle.rules.specs.AnyMomentRuns.{Worked, sameShare, ranTo, whole, upTo, since, frame, last, someChange, figures, putUp, worked-waits, AllRight, AllPutUp}
 use Rattle.rules.proofs.Laws.Passes.{any-none, and-both, or-cases, true-false}
+use Rattle.rules.proofs.Laws.Rows.{all-right}
 use Rattle.rules.proofs.Laws.Sums.{Same, it, other, same-or-not}
 use Rattle.rules.proofs.AnyMoment.Theorem.{control-any-moment}
 use Rattle.rules.proofs.Laws.Clash.{clash}
 
--- row by row, so that a row that is wrong is the one that is named
-abbrev Each : List Worked → Type 0
-Each [] = Unit {0}
-Each (x ∷ rows) = (figures x ≡ x .expected) × Each rows
-
-all-right : (rows : List Worked) → Each rows → AllRight rows
-all-right [] e = refl
-all-right (x ∷ rows) e = ap₂ _∷_ (e .0) (all-right rows (e .1))
-
 pub worked-right : AllRight worked-waits
 unfolding figures any sum first advance countsIn counts held due sought below lowest walk led nearest chooseBy perform made
     clockAt reserved highGrants firstGrant keptStanding waitLimit
-worked-right = all-right worked-waits (refl, (refl, (refl, (refl, (refl, (refl, (refl, (refl, (refl, tt)))))))))
+worked-right = all-right figures (λ (x : Worked). x .expected) worked-waits (refl, (refl, (refl, (refl, (refl, (refl, (refl, (refl, (refl, tt)))))))))
 
 pub worked-put-up : AllPutUp worked-waits
 unfolding any sum first advance countsIn counts held due sought below lowest walk led nearest chooseBy perform made

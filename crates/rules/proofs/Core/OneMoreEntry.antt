@@ -23,7 +23,7 @@ use Rattle.rules.proofs.Laws.Frames.{starts, starts-later}
 use Rattle.rules.proofs.Core.WordsAndCore.{Tells, neither, plain, kept, taken-normal, Reads, tells-on}
 
 -- k = j, asked both ways round
-other-way-round : (j k : ℕ) {b : Bool} → eqb j k ≡ b → eqb k j ≡ b
+pub other-way-round : (j k : ℕ) {b : Bool} → eqb j k ≡ b → eqb k j ≡ b
 other-way-round j k {b = true} e = eq-eqb k j (sym (eqb-true j k e))
 other-way-round j k {b = false} e = ne-eqb k j (λ q. eqb-false j k e (sym q))
 

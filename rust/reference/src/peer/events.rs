@@ -23,6 +23,9 @@ impl Peer {
         node.bits = b as u16;
         node.stands = STANDS_NORMAL;
         self.standing += u32::from(before.stands == NONE);
+        if before.stands != STANDS_NORMAL {
+            *at_mut(&mut self.since, k) = self.clock;
+        }
         if before.stands == STANDS_HIGH && before.left > 0 {
             self.hide(HIGH, usize::from(before.hub), before.bit);
         }
@@ -52,6 +55,9 @@ impl Peer {
         node.bits = b as u16;
         node.stands = STANDS_HIGH;
         self.standing += u32::from(before.stands == NONE);
+        if before.stands != STANDS_HIGH {
+            *at_mut(&mut self.since, k) = self.clock;
+        }
         if before.stands == STANDS_NORMAL {
             self.hide(NORMAL, usize::from(before.hub), before.bit);
         }

@@ -69,8 +69,8 @@ fn padded(left: &[u8]) -> Window {
 fn steps(peer: &mut Peer, t: u64, log: &mut Vec<u8>) {
     loop {
         match peer.call(Call::Step { t }) {
-            Answer::Grant { time, node, class, end, moves } => {
-                write::line(log, b"(grant", [time, node, class.number(), end, moves]);
+            Answer::Grant { time, node, class, end, moves, wait } => {
+                write::line(log, b"(grant", [time, node, class.number(), end, moves, wait]);
             }
             Answer::Rest { time, moves } => write::line(log, b"(rest", [time, moves]),
             _ => return,

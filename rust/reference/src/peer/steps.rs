@@ -50,6 +50,7 @@ impl Peer {
         self.busy = true;
         self.end = time + u64::from(bits) + self.overhead;
         let class = if class == HIGH { Class::High } else { Class::Normal };
-        Answer::Grant { time, node: k as u64 + 1, class, end: self.end, moves }
+        let wait = time - at(&self.since, k);
+        Answer::Grant { time, node: k as u64 + 1, class, end: self.end, moves, wait }
     }
 }

@@ -91,6 +91,9 @@ pub struct Peer {
     pub(super) levels: [u8; MOST_HUBS],
     pub(super) runs: [Run; MOST_RUNS],
     pub(super) node: [Node; MOST_NODES],
+    /// By node: when the request that stands was first put up in its class. It has
+    /// a table of its own, so that a frame's start needn't pass over it.
+    pub(super) since: [u64; MOST_NODES],
     /// By hub: the ports that have a hub.
     pub(super) lower: [u32; MOST_HUBS],
     /// Port q of hub h at 32 × h + q: a node's or a hub's number.
@@ -98,11 +101,14 @@ pub struct Peer {
 }
 
 impl Peer {
-    /// A plan's hub before any event.
+    /// A plan's hub before any event. The tables are made first and the whole in
+    /// place, since it is slow to move.
     pub fn new(plan: &Plan) -> Peer {
         let mut shown = [0; MOST_HUBS + 1];
         shown[TOP] = 1 << 31;
-        let mut peer = Peer {
+        let node = nodes(plan);
+        let (ports, lower) = ports(plan);
+        Peer {
             clock: 0,
             next_start: plan.frame,
             end: 0,
@@ -120,53 +126,72 @@ impl Peer {
             filled: 0,
             shown: [shown; 2],
             pointers: [[FIRST; MOST_HUBS]; 2],
-            above: [Above { hub: TOP as u32, bit: 1 }; MOST_HUBS],
-            levels: [0; MOST_HUBS],
-            runs: [Run::default(); MOST_RUNS],
-            node: [Node::default(); MOST_NODES],
-            lower: [0; MOST_HUBS],
-            ports: [0; MOST_HUBS * MOST_PORTS],
-        };
-        for h in 0..plan.hubs.len() {
-            peer.put_hub(plan, h);
+            above: above(plan),
+            levels: levels(plan),
+            runs: runs(&node[..plan.nodes]),
+            node,
+            since: [0; MOST_NODES],
+            lower,
+            ports,
         }
-        peer.put_runs();
-        peer
     }
+}
 
-    fn put_hub(&mut self, plan: &Plan, h: usize) {
-        let hub = &plan.hubs[h];
-        self.levels[h] = (hub.level - 1) as u8;
-        if let Some((above, port)) = hub.parent {
-            self.above[h] = Above { hub: above as u32 - 1, bit: 1 << (port - 1) };
+fn above(plan: &Plan) -> [Above; MOST_HUBS] {
+    let mut above = [Above { hub: TOP as u32, bit: 1 }; MOST_HUBS];
+    for (place, hub) in above.iter_mut().zip(&plan.hubs) {
+        if let Some((hub, port)) = hub.parent {
+            *place = Above { hub: hub as u32 - 1, bit: 1 << (port - 1) };
         }
+    }
+    above
+}
+
+fn levels(plan: &Plan) -> [u8; MOST_HUBS] {
+    let mut levels = [0; MOST_HUBS];
+    for (level, hub) in levels.iter_mut().zip(&plan.hubs) {
+        *level = (hub.level - 1) as u8;
+    }
+    levels
+}
+
+fn nodes(plan: &Plan) -> [Node; MOST_NODES] {
+    let mut nodes = [Node::default(); MOST_NODES];
+    for (h, hub) in plan.hubs.iter().enumerate() {
         for (q, &port) in hub.ports.iter().enumerate() {
-            self.ports[h * MOST_PORTS + q] = match port {
-                Port::Node(k) => {
-                    self.node[k - 1] = Node { hub: h as u8, bit: 1 << q, ..Node::default() };
-                    (k - 1) as u8
-                }
+            if let Port::Node(k) = port {
+                nodes[k - 1] = Node { hub: h as u8, bit: 1 << q, ..Node::default() };
+            }
+        }
+    }
+    nodes
+}
+
+/// What the ports have, and by hub which of them have a hub.
+fn ports(plan: &Plan) -> ([u8; MOST_HUBS * MOST_PORTS], [u32; MOST_HUBS]) {
+    let (mut ports, mut lower) = ([0; MOST_HUBS * MOST_PORTS], [0; MOST_HUBS]);
+    for (h, hub) in plan.hubs.iter().enumerate() {
+        for (q, &port) in hub.ports.iter().enumerate() {
+            ports[h * MOST_PORTS + q] = match port {
+                Port::Node(k) => (k - 1) as u8,
                 // No mask ever has its bit.
                 Port::Empty => 0,
-                Port::Hub(lower) => {
-                    self.lower[h] |= 1 << q;
-                    (lower - 1) as u8
+                Port::Hub(below) => {
+                    lower[h] |= 1 << q;
+                    (below - 1) as u8
                 }
             };
         }
     }
+    (ports, lower)
+}
 
-    fn put_runs(&mut self) {
-        let mut last = usize::MAX;
-        for node in &self.node[..self.nodes as usize] {
-            let same = last != usize::MAX && self.runs[last].hub == u16::from(node.hub);
-            if !same {
-                last = last.wrapping_add(1);
-                self.runs[last].hub = u16::from(node.hub);
-            }
-            self.runs[last].nodes += 1;
-        }
+fn runs(nodes: &[Node]) -> [Run; MOST_RUNS] {
+    let mut runs = [Run::default(); MOST_RUNS];
+    for (run, nodes) in runs.iter_mut().zip(nodes.chunk_by(|one, next| one.hub == next.hub)) {
+        *run = Run { hub: u16::from(nodes[0].hub), nodes: nodes.len() as u16 };
     }
+    runs
 }
 
 /// A table's entry. Every index here is right by how the tables were made: the

@@ -1,8 +1,8 @@
 //! Log lines, written into room that is made once a line.
 
-/// The room for a form: no word has more than 8 bytes, no form more than 5
+/// The room for a form: no word has more than 8 bytes, no form more than 6
 /// numbers, and no number more than 20 digits with a space before them.
-const ROOM: usize = 8 + 5 * 21 + 2;
+const ROOM: usize = 8 + 6 * 21 + 2;
 
 /// The two digits of 0 to 99.
 static PAIRS: [[u8; 2]; 100] = pairs();
@@ -28,7 +28,7 @@ pub fn line<const W: usize, const N: usize>(log: &mut Vec<u8>, word: &[u8; W], n
 /// The same without the bracket and the LF, for which there is room.
 #[inline]
 pub fn form<const W: usize, const N: usize>(log: &mut Vec<u8>, word: &[u8; W], numbers: [u64; N]) {
-    const { assert!(W <= 8 && N <= 5) };
+    const { assert!(W <= 8 && N <= 6) };
     log.reserve(ROOM);
     let mut at = bytes(log, log.len(), word);
     for number in numbers {

@@ -8,6 +8,7 @@ use crate::plan::Plan;
 use std::ops::RangeInclusive;
 
 mod laptop;
+mod turned;
 
 /// Lengths about the longest packets of both framings.
 const NEAR_LONGEST: [u64; 6] = [11_999, 12_000, 12_001, 35_999, 36_000, 36_001];
@@ -100,7 +101,7 @@ impl Caller {
         if self.made == 1 && self.random.chance(12) {
             return Call::Until { t: LAST_TIME - self.random.below(40 * self.frame) };
         }
-        if self.scene.is_empty() && self.random.chance(3) {
+        if self.scene.is_empty() && self.random.chance(6) {
             self.set_scene();
         }
         match (self.scene.pop(), self.style) {
@@ -136,6 +137,21 @@ impl Caller {
                 }
             }
         }
+    }
+
+    /// Sets a scene, if there is a node for it.
+    fn set_scene(&mut self) {
+        let (reserved, unreserved) = (self.some_node(true), self.some_node(false));
+        let scene = match (self.random.below(80), reserved, unreserved) {
+            (0..=19, _, Some(k)) => self.over_a_start(k),
+            (20..=29, _, Some(k)) => self.reserved_by_then(k),
+            (30..=39, Some(k), _) => self.given_up_by_then(k),
+            (40..=69, Some(k), _) => self.turned_at_a_start(k),
+            (70..=76, Some(k), _) => self.asks_again(k),
+            (77, ..) => self.long_queue(),
+            _ => return,
+        };
+        self.scene.extend(scene.into_iter().rev());
     }
 
     fn mixed(&mut self) -> Call {

@@ -9,6 +9,7 @@ use reference::hub::{Answer, Call, Calls, Hub};
 use reference::log::log;
 use reference::peer::{self, Peer};
 use reference::plan::{read, Framing, Plan};
+use reference::waits::Waits;
 use std::collections::BTreeMap;
 use std::path::{Path, PathBuf};
 
@@ -52,8 +53,16 @@ pub fn logged(text: &str, expected: &str) {
     assert_eq!(String::from_utf8(peer::log::log(text.as_bytes())).unwrap(), expected, "peer: {text}");
 }
 
-/// These calls get these answers of each hub of a plan.
+/// These calls get these answers of each hub of a plan, with the waits that both
+/// tell: the table needn't have them.
 pub fn trial(plan: &Plan, table: &[(Call, Answer)]) {
+    let mut waits = Waits::new(plan);
+    let table: Vec<_> = table.iter().map(|&(call, answer)| (call, waits.hear(call, answer))).collect();
+    trial_of_waits(plan, &table);
+}
+
+/// The same with the waits that the table has.
+pub fn trial_of_waits(plan: &Plan, table: &[(Call, Answer)]) {
     for (which, hub) in hubs(plan).iter_mut().enumerate() {
         for (place, &(call, answer)) in table.iter().enumerate() {
             let expected = if which < 2 { answer } else { answer.without_moves() };
@@ -72,7 +81,7 @@ pub fn trial_of_both(plan: &Plan, table: &[(Call, Answer)]) {
 
 pub fn grant(time: u64, node: u64, class: u64, end: u64, moves: u64) -> Answer {
     let class = if class == 1 { Class::Normal } else { Class::High };
-    Answer::Grant { time, node, class, end, moves }
+    Answer::Grant { time, node, class, end, moves, wait: 0 }
 }
 
 /// The texts with the logs that an independent model gives. They lie in
@@ -98,15 +107,39 @@ pub fn texts(folder: &Path) -> Vec<PathBuf> {
 /// The texts as they count now: those of the requests that have landed stand in
 /// place of the ones of the same name, later ones of earlier ones.
 pub fn texts_now() -> Vec<PathBuf> {
+    texts_by(|_| true)
+}
+
+/// The texts as they count by these of the requests that have landed.
+pub fn texts_by(counts: impl Fn(&str) -> bool) -> Vec<PathBuf> {
     let landed = include_str!("../../../../tools/landed").lines();
-    let landed =
-        landed.map(|line| line.split('#').next().unwrap().trim()).filter(|number| !number.is_empty());
+    let landed = landed.map(|line| line.split('#').next().unwrap().trim());
+    let landed = landed.filter(|number| !number.is_empty() && counts(number));
     let after = landed.map(|number| vectors().join(format!("after-{number}"))).filter(|path| path.is_dir());
     let mut now = BTreeMap::new();
     for folder in [vectors()].into_iter().chain(after) {
         now.extend(texts(&folder).into_iter().map(|path| (path.file_name().unwrap().to_owned(), path)));
     }
     now.into_values().collect()
+}
+
+/// A log without the last number of the lines that begin with one of these words.
+pub fn without_last(log: &[u8], words: &[&str]) -> Vec<u8> {
+    let mut out = Vec::new();
+    for line in log.split_inclusive(|&byte| byte == b'\n') {
+        let begins = words.iter().any(|word| line.starts_with(word.as_bytes()));
+        let last = line.iter().rposition(|&byte| byte == b' ').filter(|_| begins);
+        match last {
+            Some(last) => out.extend([&line[..last], b")\n"].concat()),
+            None => out.extend_from_slice(line),
+        }
+    }
+    out
+}
+
+/// A log without its waits.
+pub fn without_waits(log: &[u8]) -> Vec<u8> {
+    without_last(log, &["(grant"])
 }
 
 /// The numbers of a line of the log that begins with this word.

@@ -18,18 +18,21 @@ pub fn string(text: &str) -> String {
     json + "\""
 }
 
+/// A class's name, as objects and tables have it.
+pub fn class_name(class: Class) -> &'static str {
+    match class {
+        Class::Normal => "normal",
+        Class::High => "high",
+    }
+}
+
 /// An entry as an object, of the log of a text with this plan, or whose plan is refused.
 pub fn object(file: &str, entry: &Entry, plan: Option<&Plan>) -> String {
     let fields = match entry {
         Entry::Taken { nodes, hubs } => format!("\"form\":\"nodes\",\"nodes\":{nodes},\"hubs\":{hubs}"),
-        Entry::Step(Step::Grant { time, node, class, end, moves }) => {
-            let class = match class {
-                Class::Normal => "normal",
-                Class::High => "high",
-            };
-            format!(
-                "\"form\":\"grant\",\"time\":{time},\"node\":{node},\"class\":\"{class}\",\"end\":{end},\"moves\":{moves}"
-            )
+        Entry::Step(Step::Grant { time, node, class, end, moves, wait }) => {
+            let turn = format!("\"time\":{time},\"node\":{node},\"class\":\"{}\"", class_name(*class));
+            format!("\"form\":\"grant\",{turn},\"end\":{end},\"moves\":{moves},\"wait\":{wait}")
         }
         Entry::Step(Step::Rest { time, moves }) => {
             format!("\"form\":\"rest\",\"time\":{time},\"moves\":{moves}")
@@ -54,7 +57,7 @@ mod tests {
 
     #[test]
     fn each_form_is_an_object() {
-        let log = b"(nodes 4 hubs 2)\n(refused 15 1)\n(grant 0 1 1 13000 0)\n(rest 20000 0)\n";
+        let log = b"(nodes 4 hubs 2)\n(refused 15 1)\n(grant 13000 4 1 20000 0 13000)\n(rest 20000 0)\n";
         let log = crate::log::read(log).unwrap();
         let plan = Plan::read(include_bytes!("../../../../examples/example.text")).unwrap();
         let objects: String = log.iter().map(|entry| object("a", entry, Some(&plan))).collect();
@@ -62,7 +65,7 @@ mod tests {
             objects,
             "{\"file\":\"a\",\"form\":\"nodes\",\"nodes\":4,\"hubs\":2}\n\
              {\"file\":\"a\",\"form\":\"refused\",\"line\":15,\"number\":1,\"words\":\"no form above, or its LF is missing\"}\n\
-             {\"file\":\"a\",\"form\":\"grant\",\"time\":0,\"node\":1,\"class\":\"normal\",\"end\":13000,\"moves\":0}\n\
+             {\"file\":\"a\",\"form\":\"grant\",\"time\":13000,\"node\":4,\"class\":\"normal\",\"end\":20000,\"moves\":0,\"wait\":13000}\n\
              {\"file\":\"a\",\"form\":\"rest\",\"time\":20000,\"moves\":0}\n"
         );
     }

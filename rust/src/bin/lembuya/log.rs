@@ -39,11 +39,11 @@ impl Entry {
         let numbers: Vec<u64> = rest.iter().filter_map(|word| word.parse().ok()).collect();
         match (word, &numbers[..], &rest[..]) {
             ("nodes", &[nodes, hubs], [_, "hubs", _]) => Some(Entry::Taken { nodes, hubs }),
-            ("grant", &[time, node, class @ (1 | 2), end, moves], [_, _, _, _, _])
-                if time < end && end <= LATEST =>
+            ("grant", &[time, node, class @ (1 | 2), end, moves, wait], [_, _, _, _, _, _])
+                if wait <= time && time < end && end <= LATEST =>
             {
                 let class = if class == 1 { Class::Normal } else { Class::High };
-                Some(Entry::Step(Step::Grant { time, node, class, end, moves }))
+                Some(Entry::Step(Step::Grant { time, node, class, end, moves, wait }))
             }
             ("rest", &[time, moves], [_, _]) if time <= LATEST => {
                 Some(Entry::Step(Step::Rest { time, moves }))
@@ -67,6 +67,14 @@ pub fn lines(bytes: &[u8]) -> Vec<&[u8]> {
 pub fn read(bytes: &[u8]) -> Result<Vec<Entry>, usize> {
     let read = |(at, line)| std::str::from_utf8(line).ok().and_then(Entry::read).ok_or(at + 1);
     lines(bytes).into_iter().enumerate().map(read).collect()
+}
+
+/// Why a line is none of a log, where that can be told: a grant that lacks its wait is of a log from before there were waits.
+pub fn from_before(line: &[u8]) -> Option<&'static str> {
+    let without = std::str::from_utf8(line).ok()?.strip_suffix(')')?;
+    let with = Entry::read(&format!("{without} 0)"));
+    matches!(with, Some(Entry::Step(Step::Grant { .. })))
+        .then_some("a grant without its wait: the log was written before grants had one, and 'lembuya run' writes it anew")
 }
 
 /// The words of the documents' tables for `(refused line number)` in the log of a text with this plan, or whose plan is refused.
@@ -98,20 +106,24 @@ mod tests {
 
     #[test]
     fn every_form_is_read_and_nothing_else() {
-        let log = b"(nodes 4 hubs 2)\n(refused 15 16)\n(grant 0 1 2 13000 0)\n(rest 20000 1)\n";
-        let (time, node, class, end, moves) = (0, 1, Class::High, 13_000, 0);
+        let log = b"(nodes 4 hubs 2)\n(refused 15 16)\n(grant 700 1 2 13000 0 600)\n(rest 20000 1)\n";
+        let (time, node, class, end, moves, wait) = (700, 1, Class::High, 13_000, 0, 600);
         assert_eq!(
             read(log),
             Ok(vec![
                 Entry::Taken { nodes: 4, hubs: 2 },
                 Entry::Refused { line: 15, number: 16 },
-                Entry::Step(Step::Grant { time, node, class, end, moves }),
+                Entry::Step(Step::Grant { time, node, class, end, moves, wait }),
                 Entry::Step(Step::Rest { time: 20_000, moves: 1 }),
             ])
         );
         for line in [
-            "(grant 0 1 3 13000 0)",
-            "(grant 5 1 1 5 0)",
+            "(grant 0 1 3 13000 0 0)",
+            "(grant 5 1 1 5 0 0)",
+            "(grant 5 1 1 9 0 6)",
+            "(grant 5 1 1 9 0)",
+            "(grant 5 1 1 9 0 5 5)",
+            "(grant 5 1 1 9 0 x)",
             "(nodes 4 2)",
             "(rest 1)",
             "rest 1 2",
@@ -125,9 +137,25 @@ mod tests {
     /// 10^15, 36,000 bits and an overhead of 50,000.
     #[test]
     fn the_latest_end_is_that_of_framing_5() {
-        let grant = |end: u64| read(format!("(grant 1000000000000000 1 1 {end} 0)\n").as_bytes());
+        let grant = |end: u64| read(format!("(grant 1000000000000000 1 1 {end} 0 0)\n").as_bytes());
         assert!(grant(1_000_000_000_086_000).is_ok());
         assert_eq!(grant(1_000_000_000_086_001), Err(1));
+    }
+
+    #[test]
+    fn a_grant_from_before_is_told_apart() {
+        assert!(from_before(b"(grant 0 1 1 13000 0)").is_some_and(|words| words.contains("without its wait")));
+        for line in [
+            &b"(grant 0 1 1 13000 0 0)"[..],
+            b"(grant 0 1 3 13000 0)",
+            b"(grant 0 1 1 13000)",
+            b"(grant 0 1 1 13000 0",
+            b"(rest 0)",
+            b"(rest 0 0)",
+            b"",
+        ] {
+            assert_eq!(from_before(line), None, "{}", String::from_utf8_lossy(line));
+        }
     }
 
     #[test]

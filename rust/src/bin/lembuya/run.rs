@@ -16,6 +16,11 @@ Of more than one text each log has a line '==> FILE <==' above it, as 'head' wri
     --json     one object a line: file, form (nodes, grant, rest or refused) and the form's values
     --quiet    don't say on standard error which lines are refused, and why
 
+A grant's line is (grant s k class end moves wait): at s node k gets the line in its class, 1 normal or
+2 high, until end, by so many moves of control, and has waited so long: s less the time at which its
+request was first put up. A replacing request of the same class keeps that time, and a change of class
+sets it anew, also the one at a frame's start; a high request that is taken as normal is a normal one.
+
 Every refused line is said on standard error: FILE:LINE: refused NUMBER: the table's words.
 A high request that is taken as normal, in a plan without (strict), is not: its grant has class 1.
 Of a text at most 65,536 bytes are looked at.

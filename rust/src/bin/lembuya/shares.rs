@@ -49,6 +49,13 @@ pub fn delay_limit(plan: &Plan, shares: &[Share], k: usize) -> u64 {
     plan.interrupt() + shares[k].load(plan) + others
 }
 
+/// What a high wait of the node at place k can't be longer than, by request 5 of document 02: D, and c of every other node with a
+/// reservation.
+pub fn wait_limit(plan: &Plan, shares: &[Share], k: usize) -> u64 {
+    let others = shares.iter().enumerate().filter(|(j, share)| *j != k && share.packets > 0);
+    plan.interrupt() + others.map(|(_, share)| share.cost(plan)).sum::<u64>()
+}
+
 #[cfg(test)]
 mod tests {
     use super::*;
@@ -76,6 +83,14 @@ mod tests {
         assert_eq!(delay_limit(&plan(), &shares, 2), 44_000);
         // 13,000 + 1 × 12,000 + 1 × 5,000 + 1 × 3,000
         assert_eq!(delay_limit(&plan(), &shares, 3), 33_000);
+    }
+
+    /// The others' packets count once each, however many they have, and one's own not at all.
+    #[test]
+    fn a_waits_limit_counts_each_other_reservation_once() {
+        let shares = [share(2, 4_000), share(0, 0), share(3, 2_000), share(1, 11_000)];
+        // 13,000 + 3,000 + 12,000; 13,000 + 5,000 + 12,000; and of a node with nothing reserved all three.
+        assert_eq!([0, 2, 1].map(|k| wait_limit(&plan(), &shares, k)), [28_000, 30_000, 33_000]);
     }
 
     #[test]

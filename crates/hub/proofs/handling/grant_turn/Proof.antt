@@ -14,6 +14,9 @@ element-copy-out-end-of c = search needs
 end-of-requires : tie.Need-end-of-requires
 end-of-requires c κs = search needs
 
+wait-requires : tie.Need-wait-requires
+wait-requires c κs = search needs
+
 grant-node-requires : tie.Need-grant-node-requires
 grant-node-requires c κs = search needs
 
@@ -26,9 +29,13 @@ class-number-requires c κs = search needs
 returns : tie.Need-returns
 unfolding grantBy planOf
 returns c =
-    let end = c .before .before .before .before .before .end-of .ensures in
-    let bits = c .before .before .before .before .before .before .before .bits-at .ensures in
-    (rw (c .class-number .ensures, end, bits), rw (c .before .busy-until .ensures, c .before .before .before .grant-node .ensures, end, bits))
+    let busy = c .before in
+    let granted = busy .before .before in
+    let waited = granted .before .before in
+    let ended = waited .before .before in
+    let end = ended .end-of .ensures in
+    let bits = ended .before .before .bits-at .ensures in
+    (rw (c .class-number .ensures, waited .wait .ensures, end, bits), rw (busy .busy-until .ensures, granted .grant-node .ensures, end, bits))
 
 pub grant-turn-spec : {M : Type 1} → statement M
 grant-turn-spec =
@@ -37,6 +44,7 @@ grant-turn-spec =
     bits-at-requires
     element-copy-out-end-of
     end-of-requires
+    wait-requires
     grant-node-requires
     busy-until-requires
     class-number-requires

@@ -1,25 +1,14 @@
 //! Scenes of slip 8: high requests of nodes that have no reservation, and
 //! reservations that come into force or end about them.
 
+use super::turned::BusyOver;
 use super::Caller;
 use crate::core::{MOST_PACKETS, SHORTEST_PACKET};
 use crate::hub::Call;
 
 impl Caller {
-    /// Sets a scene, if there is a node for it.
-    pub(super) fn set_scene(&mut self) {
-        let (reserved, unreserved) = (self.some_node(true), self.some_node(false));
-        let scene = match (self.random.below(4), reserved, unreserved) {
-            (0 | 1, _, Some(k)) => self.over_a_start(k),
-            (2, _, Some(k)) => self.reserved_by_then(k),
-            (3, Some(k), _) => self.given_up_by_then(k),
-            _ => return,
-        };
-        self.scene.extend(scene.into_iter().rev());
-    }
-
     /// A node that has a latest reservation, or has none, if a few looks find one.
-    fn some_node(&mut self, reserved: bool) -> Option<u64> {
+    pub(super) fn some_node(&mut self, reserved: bool) -> Option<u64> {
         let looks: [u64; 4] = std::array::from_fn(|_| self.random.within(1..=self.nodes));
         let busy = self.random.one_of(&self.busy_nodes);
         looks.into_iter().chain([busy]).find(|&k| (self.latest[k as usize - 1].0 > 0) == reserved)
@@ -27,20 +16,11 @@ impl Caller {
 
     /// An unreserved node asks high while the line is busy over a frame's start,
     /// from which on it has a reservation; then it asks again, or just waits.
-    fn over_a_start(&mut self, k: u64) -> Vec<Call> {
-        let start = self.next_start();
-        let mut scene = Vec::new();
-        let busy = self.end > start;
-        let t = if busy { self.clock } else { start - 1 };
-        if !busy {
-            let j = self.random.within(1..=self.nodes);
-            let rest = Call::Step { t };
-            scene.extend([rest, Call::Normal { t, k: j, b: self.longest }, Call::Step { t: start }]);
-        }
+    pub(super) fn over_a_start(&mut self, k: u64) -> Vec<Call> {
+        let BusyOver { calls: mut scene, start, before: t, most } = self.busy_over_start();
         let (n, b) = self.fitting(k);
         scene.push(Call::High { t, k, b: self.random.within_or_end(self.lengths()) });
         scene.push(Call::Reserve { t, k, n, b });
-        let most = if busy { self.end - start } else { self.longest };
         let later = start + self.random.below(most);
         scene.push(match self.random.below(5) {
             0 | 1 => Call::High { t: later, k, b },
@@ -53,14 +33,14 @@ impl Caller {
 
     /// A node reserves, and asks high in that frame or in the next, with the clock
     /// before it.
-    fn reserved_by_then(&mut self, k: u64) -> Vec<Call> {
+    pub(super) fn reserved_by_then(&mut self, k: u64) -> Vec<Call> {
         let (n, b) = self.fitting(k);
         let t = self.random.one_of(&[self.clock, self.next_start() - 1, self.next_start()]);
         vec![Call::Reserve { t: self.clock, k, n, b }, Call::High { t, k, b }]
     }
 
     /// A node gives its reservation up, and asks high about the next frame's start.
-    fn given_up_by_then(&mut self, k: u64) -> Vec<Call> {
+    pub(super) fn given_up_by_then(&mut self, k: u64) -> Vec<Call> {
         let (_, b) = self.latest[k as usize - 1];
         let t = self.random.one_of(&[self.next_start() - 1, self.next_start(), self.next_start() + 1]);
         let b = self.random.one_of(&[SHORTEST_PACKET, b, b + 1]);

@@ -36,6 +36,15 @@ pub struct Rest {
     pub title: String,
 }
 
+/// A request that stood, from when it was first put up to its grant.
+#[derive(Clone, Debug, PartialEq, Eq)]
+pub struct Wait {
+    pub row: usize,
+    pub from: u64,
+    pub to: u64,
+    pub title: String,
+}
+
 /// A mark at a time on a row: a delay limit, or a refused event.
 #[derive(Clone, Debug, PartialEq, Eq)]
 pub struct Mark {
@@ -56,6 +65,7 @@ pub struct Chart {
     /// Each frame's number and start that lies within the range.
     pub frames: Vec<(u64, u64)>,
     pub bars: Vec<Bar>,
+    pub waits: Vec<Wait>,
     pub controls: Vec<Control>,
     pub rests: Vec<Rest>,
     pub limits: Vec<Mark>,
@@ -85,6 +95,7 @@ impl Chart {
         let places = Places::new(text, entries);
         let mut chart = Chart::empty(title, places.figures(text), from, to, places.rows.clone());
         chart.add_turns(&places, entries, last);
+        chart.add_waits(&places, entries);
         if let Some(text) = text {
             let frames = (to - from) / text.plan.frame();
             if frames > MOST_FRAMES {
@@ -107,6 +118,7 @@ impl Chart {
             rows,
             frames: Vec::new(),
             bars: Vec::new(),
+            waits: Vec::new(),
             controls: Vec::new(),
             rests: Vec::new(),
             limits: Vec::new(),
@@ -116,7 +128,7 @@ impl Chart {
 
     /// Whether a stretch of time is in the picture. One of no length is where it lies in the range, its ends included: a rest
     /// may be over at once, and the log's last one has nothing behind it.
-    fn shows(&self, from: u64, to: u64) -> bool {
+    pub fn shows(&self, from: u64, to: u64) -> bool {
         if from == to {
             return (self.from..=self.to).contains(&from);
         }
@@ -248,7 +260,17 @@ mod tests {
                 (1, 117_000, 119_000, low)
             ]
         );
-        assert_eq!(bars[3].title, "(grant 112000 3 2 117000 2)");
+        assert_eq!(bars[3].title, "(grant 112000 3 2 117000 2 12000)");
+    }
+
+    /// Of document 01's log: 13,000 of node 4, then node 3's, which was put up at 100,000 while node 2 had the line, and node 1's.
+    #[test]
+    fn every_wait_stands_before_its_bar() {
+        let chart = example(None, None);
+        let waits: Vec<_> = chart.waits.iter().map(|wait| (wait.row, wait.from, wait.to)).collect();
+        assert_eq!(waits, [(5, 0, 13_000), (4, 100_000, 112_000), (1, 100_000, 117_000)]);
+        let starts: Vec<_> = chart.bars.iter().map(|bar| (bar.row, bar.from)).collect();
+        assert!(chart.waits.iter().all(|wait| starts.contains(&(wait.row, wait.to))));
     }
 
     #[test]
@@ -307,7 +329,7 @@ mod tests {
     #[test]
     fn a_rest_of_no_length_is_shown() {
         let entries = crate::log::read(
-            b"(nodes 1 hubs 1)\n(grant 0 1 1 600 0)\n(rest 600 1)\n(grant 600 1 1 1200 2)\n(rest 1200 3)\n",
+            b"(nodes 1 hubs 1)\n(grant 0 1 1 600 0 0)\n(rest 600 1)\n(grant 600 1 1 1200 2 0)\n(rest 1200 3)\n",
         );
         let entries = entries.unwrap();
         let chart = Chart::new("", None, &entries, None, None).unwrap();

@@ -1,6 +1,7 @@
 //! Where a chart stands on the page.
 
-use super::chart::{Chart, Control, Mark};
+use super::chart::{Chart, Control};
+use super::marks::{cross, cross_at, triangle, wait_at, waited};
 use super::svg::Svg;
 use lembuya::Class;
 
@@ -22,17 +23,18 @@ text{font-family:sans-serif;font-size:11px;fill:#222}
 .high{fill:#e69f00;stroke:#7a5400;stroke-width:.4}
 .control{fill:#444}
 .moved{stroke:#888;stroke-opacity:.7}
+.wait{fill:none;stroke:#222;stroke-width:1}
 .limit{fill:#000}
 .refused{fill:none;stroke:#b00020;stroke-width:1.5}
 ";
 
 /// The page's measures.
-struct Page {
-    row: f64,
+pub struct Page {
+    pub row: f64,
     left: f64,
     top: f64,
     width: f64,
-    from: u64,
+    pub from: u64,
     to: u64,
 }
 
@@ -50,17 +52,22 @@ impl Page {
     }
 
     /// Where a time stands; what lies outside the range stands at its edge.
-    fn x(&self, time: u64) -> f64 {
+    pub fn x(&self, time: u64) -> f64 {
         let part = (time.clamp(self.from, self.to) - self.from) as f64 / (self.to - self.from) as f64;
         self.left + self.width * part
     }
 
-    fn y(&self, row: usize) -> f64 {
+    pub fn y(&self, row: usize) -> f64 {
         self.top + self.row * row as f64
     }
 
-    fn middle(&self, row: usize) -> f64 {
+    pub fn middle(&self, row: usize) -> f64 {
         self.y(row) + self.row / 2.0
+    }
+
+    /// Half the size of a mark on a row.
+    pub fn mark(&self) -> f64 {
+        (self.row / 6.0).max(2.5)
     }
 }
 
@@ -88,6 +95,9 @@ pub fn page(chart: &Chart) -> String {
         let height = page.row * height;
         svg.rect(class, from, page.middle(bar.row) - height / 2.0, (to - from).max(0.8), height, &bar.title);
     }
+    for wait in &chart.waits {
+        waited(&mut svg, &page, wait);
+    }
     for limit in &chart.limits {
         triangle(&mut svg, &page, limit);
     }
@@ -106,6 +116,7 @@ fn legend(svg: &mut Svg) {
     };
     item(svg, |svg, x, y| svg.rect("high", x, y, 18.0, 12.0, ""), "high grant");
     item(svg, |svg, x, y| svg.rect("normal", x, y + 2.0, 18.0, 8.0, ""), "normal grant");
+    item(svg, |svg, x, y| wait_at(svg, (x, x + 18.0), y + 6.0, 4.0, ""), "wait, from its request on");
     item(svg, |svg, x, y| svg.rect("rest", x, y, 18.0, 12.0, ""), "rest");
     item(svg, |svg, x, y| svg.rect("control", x, y + 5.0, 18.0, 2.0, ""), "control, with its moves");
     item(
@@ -228,21 +239,6 @@ fn controls(svg: &mut Svg, page: &Page, controls: &[Control]) {
             }
         }
     }
-}
-
-fn triangle(svg: &mut Svg, page: &Page, mark: &Mark) {
-    let (x, y) = (page.x(mark.at), page.y(mark.row) + page.row);
-    let half = (page.row / 6.0).max(2.5);
-    svg.path("limit", &[(x - half, y), (x + half, y), (x, y - 2.2 * half)], &mark.title);
-}
-
-fn cross(svg: &mut Svg, page: &Page, mark: &Mark) {
-    cross_at(svg, page.x(mark.at), page.middle(mark.row), (page.row / 6.0).max(2.5), &mark.title);
-}
-
-fn cross_at(svg: &mut Svg, x: f64, y: f64, half: f64, title: &str) {
-    svg.path("refused", &[(x - half, y - half), (x + half, y + half)], title);
-    svg.path("refused", &[(x - half, y + half), (x + half, y - half)], title);
 }
 
 #[cfg(test)]

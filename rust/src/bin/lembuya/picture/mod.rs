@@ -1,14 +1,17 @@
 //! `lembuya picture`: a log as an SVG.
 //!
 //! - `chart`: what is drawn, in times and rows.
+//! - `waits`: of that, how long each request had stood.
 //! - `places`: which row is whose.
-//! - `draw`: where that stands on the page.
+//! - `draw`: where that stands on the page, and `marks` where the small marks on a node's row do.
 //! - `svg`: the page's elements as text.
 
 mod chart;
 mod draw;
+mod marks;
 mod places;
 mod svg;
+mod waits;
 
 use crate::args::{self, Args, Options, Wrong};
 use crate::log::{self, Entry};
@@ -29,10 +32,14 @@ too: then there is no tree, and no frame or delay limit, since a log doesn't tel
     --title WORDS       the words above the picture; at first the file's name
 
 Rows are the hubs and nodes in line order. A node's bars are its grants: high ones orange and tall,
-normal ones blue and low, those of high requests that were taken as normal too. A dark line on a
-hub's row: it has control; where control passes, the number of moves stands by it. A grey stretch is
-a rest. Frames are lines with their numbers, a black triangle under a row's bars is its node's delay
-limit in that frame, a cross a refused event.
+normal ones blue and low, those of high requests that were taken as normal too. A thin line before a
+bar is its wait, and starts with a stroke where the request was first put up; a bar without one was
+granted at once. A dark line on a hub's row: it has control; where control passes, the number of moves
+stands by it. A grey stretch is a rest. Frames are lines with their numbers, a cross is a refused event.
+A black triangle under a row's bars is its node's delay limit in that frame: by then its n high packets
+are through, if its request stands from the frame's start on and again behind each of them. A high bar
+behind it breaks no limit: it was put up later, where its thin line starts or, without one, the bar
+itself, or it was held with the share of its frame spent; 'lembuya waits' has what limits such waits.
 Point at any of these in a browser and it shows its line of the log.
 
 Exit status: 0; 1 where the plan is refused; 2 for bad usage.
@@ -86,16 +93,20 @@ fn same(file: &str, log: &[u8], text: &str, made: &[u8]) -> Result<(), Wrong> {
     if same == log.len().max(made.len()) {
         return Ok(());
     }
-    let words = match made.get(same) {
-        Some(line) => format!("has {} here", String::from_utf8_lossy(line)),
-        None => "ends here".into(),
+    let words = match (log.get(same).and_then(|line| log::from_before(line)), made.get(same)) {
+        (Some(words), _) => words.into(),
+        (None, Some(line)) => format!("the log of {text} has {} here", String::from_utf8_lossy(line)),
+        (None, None) => format!("the log of {text} ends here"),
     };
-    Err(Wrong(format!("{file}:{}: the log of {text} {words}", same + 1)))
+    Err(Wrong(format!("{file}:{}: {words}", same + 1)))
 }
 
 /// A log without its text: it has a taken plan's first line, and grants to its nodes alone.
 fn alone(file: &str, bytes: &[u8]) -> Result<Vec<Entry>, Wrong> {
-    let no_line = |line| Wrong(format!("{file}:{line}: that is no line of a log"));
+    let no_line = |line: usize| {
+        let words = log::from_before(log::lines(bytes)[line - 1]).unwrap_or("that is no line of a log");
+        Wrong(format!("{file}:{line}: {words}"))
+    };
     let entries = log::read(bytes).map_err(no_line)?;
     let Some(&Entry::Taken { nodes, .. }) = entries.first() else {
         return Err(Wrong(format!("{file}: a refused plan has no picture")));

@@ -1,11 +1,11 @@
--- `put_six` meets its contract: the six stores are the definition's.
+-- `put_seven` meets its contract: the seven stores are the definition's.
 use mathlib.Core.Path.{refl}
 use native.Mathlib.Omega.{arith}
 use borrow.Author.Needs.{needs}
 use lib.ListN.{length-set}
-use Rattle.call_list.specs.Table.{putSix}
-use Rattle.call_list.proofs.put_six.Statement.{statement}
-use Rattle.call_list.proofs.put_six.Tie as tie
+use Rattle.call_list.specs.Table.{putSeven}
+use Rattle.call_list.proofs.put_seven.Statement.{statement}
+use Rattle.call_list.proofs.put_seven.Tie as tie
 
 mul-at : tie.Need-mul-at
 mul-at c = search needs
@@ -61,15 +61,24 @@ mul-answers-6 c = search needs
 slice-write-answers-6 : tie.Need-slice-write-answers-6
 slice-write-answers-6 c = simp length-set (omega arith)
 
+add-answers-6 : tie.Need-add-answers-6
+add-answers-6 c = search needs
+
+mul-answers-7 : tie.Need-mul-answers-7
+mul-answers-7 c = search needs
+
+slice-write-answers-7 : tie.Need-slice-write-answers-7
+slice-write-answers-7 c = simp length-set (omega arith)
+
 same-length : tie.Need-same-length
 same-length c = search needs
 
 returns : tie.Need-returns
-unfolding putSix
+unfolding putSeven
 returns c = refl
 
-pub put-six-spec : {M : Type 1} → statement M
-put-six-spec =
+pub put-seven-spec : {M : Type 1} → statement M
+put-seven-spec =
     tie.close
     (tie.spec
     mul-at
@@ -90,5 +99,8 @@ put-six-spec =
     add-answers-5
     mul-answers-6
     slice-write-answers-6
+    add-answers-6
+    mul-answers-7
+    slice-write-answers-7
     same-length
     returns)
