@@ -1,9 +1,8 @@
 //! `lembuya limits`: what a plan's reservations take of the frame, and what they are promised.
 
-use crate::args::{self, Args, Options, Wrong};
+use crate::args::{Args, Options, Wrong};
 use crate::shares::{self, Share};
-use crate::text::Text;
-use crate::{log, run, End};
+use crate::{run, End};
 use lembuya::Plan;
 
 pub const OPTIONS: Options = &[];
@@ -31,21 +30,10 @@ Exit status: 0; 1 where a plan is refused; 2 for bad usage.
 ";
 
 pub fn command(args: &Args) -> Result<End, Wrong> {
-    let mut end = End::Done;
-    for file in &args.files {
-        let bytes = args::bytes(file)?;
-        let entries = log::read(&lembuya::log(&bytes)).expect("the archive writes a log");
-        let text = Text::read(&bytes);
-        run::tell(file, &bytes, text.as_ref().ok().map(|text| &text.plan), &entries);
-        match text {
-            Err(_) => end = End::Refused,
-            Ok(text) => {
-                let shares = shares::reserved(&text.plan, &text.accepted(&entries), u64::MAX);
-                args::print(&page(file, &text.plan, &shares))?;
-            }
-        }
-    }
-    Ok(end)
+    run::pages(args, |file, text, entries| {
+        let shares = shares::reserved(&text.plan, &text.accepted(entries), u64::MAX);
+        page(file, &text.plan, &shares)
+    })
 }
 
 /// The table of one text.

@@ -2,7 +2,8 @@
 
 use crate::args::{self, Args, Options, Wrong};
 use crate::log::{self, Entry};
-use crate::{json, text, End};
+use crate::text::{self, Text};
+use crate::{json, End};
 use lembuya::Plan;
 
 pub const OPTIONS: Options = &[("--json", false), ("--quiet", false)];
@@ -49,6 +50,22 @@ pub fn command(args: &Args) -> Result<End, Wrong> {
         }
         if matches!(entries[0], Entry::Refused { .. }) {
             end = End::Refused;
+        }
+    }
+    Ok(end)
+}
+
+/// A page of each text, made of it and of its log. Refused lines are said, and a text whose plan is refused has no page.
+pub fn pages(args: &Args, page: impl Fn(&str, &Text, &[Entry]) -> String) -> Result<End, Wrong> {
+    let mut end = End::Done;
+    for file in &args.files {
+        let bytes = args::bytes(file)?;
+        let entries = log::read(&lembuya::log(&bytes)).expect("the archive writes a log");
+        let text = Text::read(&bytes);
+        tell(file, &bytes, text.as_ref().ok().map(|text| &text.plan), &entries);
+        match text {
+            Err(_) => end = End::Refused,
+            Ok(text) => args::print(&page(file, &text, &entries))?,
         }
     }
     Ok(end)

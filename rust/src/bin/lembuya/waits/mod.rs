@@ -8,9 +8,8 @@ mod limit;
 mod page;
 mod rows;
 
-use crate::args::{self, Args, Options, Wrong};
-use crate::text::Text;
-use crate::{log, run, End};
+use crate::args::{Args, Options, Wrong};
+use crate::{run, End};
 
 pub const OPTIONS: Options = &[("--json", false)];
 
@@ -49,20 +48,6 @@ Exit status: 0; 1 where a plan is refused; 2 for bad usage.
 ";
 
 pub fn command(args: &Args) -> Result<End, Wrong> {
-    let mut end = End::Done;
-    for file in &args.files {
-        let bytes = args::bytes(file)?;
-        let entries = log::read(&lembuya::log(&bytes)).expect("the archive writes a log");
-        let text = Text::read(&bytes);
-        run::tell(file, &bytes, text.as_ref().ok().map(|text| &text.plan), &entries);
-        match text {
-            Err(_) => end = End::Refused,
-            Ok(text) => {
-                let rows = rows::rows(&limit::grants(&text, &entries));
-                let show = if args.has("--json") { page::objects } else { page::table };
-                args::print(&show(file, &rows))?;
-            }
-        }
-    }
-    Ok(end)
+    let show = if args.has("--json") { page::objects } else { page::table };
+    run::pages(args, |file, text, entries| show(file, &rows::rows(&limit::grants(text, entries))))
 }
