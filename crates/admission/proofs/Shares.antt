@@ -16,6 +16,7 @@ use Rattle.rules.proofs.Laws.Passes.{Which, which, yes′, no′, sum-same, sum
 use Rattle.cells.specs.Layout.{half, latestCell, shareOf, shareCode}
 use Rattle.cells.specs.Decode.{coreOf}
 use Rattle.rows.proofs.InForce.{is-node}
+use Rattle.admission.specs.Share.{row17With}
 
 pub share-coded : (n b : ℕ) → b < half → shareOf (shareCode n b) ≡ record { packets = n; bits = b }
 share-coded n b h =
@@ -47,12 +48,17 @@ less-more a b c d e T D = go (which (ltb T (D + a)))
     go (yes′ h) = lt-ltb (T + d) (D + (b + c)) (omega (arith, ltb-true T (D + a) h)) ∙ sym h
     go (no′ h) = le-ltb (T + d) (D + (b + c)) (omega (arith, ltb-false T (D + a) h)) ∙ sym h
 
--- 17, by the cell of node k's latest accepted reservation and that of the new one
-pub row17-cell : (p : Plan) (s : List ℕ) (k x all : ℕ) → Within (p .nodes) k → all ≡ loads p (coreOf p s .latest)
-    → ltb (p .frame + load p (shareOf (getD s (latestCell k) 0))) (p .interrupt + (all + load p (shareOf x)))
-    ≡ row17 p (coreOf p s) k (shareOf x) .applies
-row17-cell p s k x all w e =
-    less-more (loads p (put (coreOf p s .latest) k (shareOf x))) all (load p (shareOf x)) (load p (shareOf (getD s (latestCell k) 0)))
-    (ap (λ (r : Share). loads p (put (coreOf p s .latest) k (shareOf x)) + load p r) (sym (latest-cell p s k w))
-    ∙ loads-put p (coreOf p s .latest) k (shareOf x) w ∙ ap (λ (n : ℕ). n + load p (shareOf x)) (sym e))
-    (p .frame) (p .interrupt)
+module _ (p : Plan) (s : List ℕ) (all k : ℕ) (w : Within (p .nodes) k) where
+  -- 17 by the sum of all loads is row 17, where the sum is that of the table
+  pub row17-with : (r : Share) → all ≡ loads p (coreOf p s .latest) → row17With p (coreOf p s) all k r .applies ≡ row17 p (coreOf p s) k r .applies
+  row17-with r e =
+      less-more (loads p (put (coreOf p s .latest) k r)) all (load p r) (load p (coreOf p s .latest k))
+      (loads-put p (coreOf p s .latest) k r w ∙ ap (λ (n : ℕ). n + load p r) (sym e)) (p .frame) (p .interrupt)
+
+  -- and by the cell of node k's latest accepted reservation and that of the new one
+  pub row17-cells : (n b : ℕ) → b < half
+      → ltb (p .frame + load p (shareOf (getD s (latestCell k) 0))) (p .interrupt + (all + load p (shareOf (shareCode n b))))
+      ≡ row17With p (coreOf p s) all k (record { packets = n; bits = b }) .applies
+  row17-cells n b h =
+      ap (λ (r : Share). ltb (p .frame + load p (shareOf (getD s (latestCell k) 0))) (p .interrupt + (all + load p r))) (share-coded n b h)
+      ∙ ap (λ (r : Share). ltb (p .frame + load p r) (p .interrupt + (all + load p (record { packets = n; bits = b })))) (sym (latest-cell p s k w))

@@ -4,16 +4,15 @@ use cells::Cascade;
 use plan_tree::Plan;
 ghost use mathlib.Core.Path.{_≡_};
 ghost use mathlib.Core.Bool.{not, _||_};
-ghost use Prim.Native.Nat.{_+_, _*_, _/_, _%_, _≤_};
+ghost use Prim.Native.Nat.{_+_, _*_, _/_, _%_};
 ghost use lib.Dec.{ltb, eqb};
 ghost use Rattle.rules.specs.Choice.{if_then_else_};
-ghost use Rattle.rules.specs.Drawn.{Within};
 ghost use Rattle.rules.specs.Call.{reserve};
-ghost use Rattle.rules.specs.Rows.{row15r, row17};
-ghost use Rattle.cells.specs.Layout.{half, shareOf, shareCode};
+ghost use Rattle.rules.specs.Rows.{firstRow, row15r};
+ghost use Rattle.cells.specs.Layout.{half, shareCode};
 ghost use Rattle.cells.specs.Decode.{planIn, coreOf};
-ghost use Rattle.cells.specs.Calls.{rowBy};
-ghost use Rattle.admission.specs.Share.{shareRowBy};
+ghost use Rattle.cells.specs.Calls.{numberOf, rowBy};
+ghost use Rattle.admission.specs.Share.{limitRows, row17With, shareRowBy, shareRowWith};
 
 // 15 in a reserve: with n = 0 instead, b not 0.
 fn share_outside(p: &Plan, n: u64, b: u64) -> bool
@@ -32,36 +31,22 @@ pub fn share_code(n: u16, b: u16) -> u32
     n as u32 * cells::HALF + b as u32
 }
 
-// Whether D and all loads, with a new reservation in place of an old one of them, are more than T.
+// Whether D and all loads, with a new reservation in place of an old one of them, are more than T. A sum that is more than T by itself is
+// answered first, so that no sum that is handed over wraps.
 fn more_than(frame: u32, overhead: u32, interrupt: u32, all: u64, old: u32, new: u32) -> bool
-    requires { ⌜ all ≤ 288230376151711744 ⌝ }
     ensures { λ r. ⌜ r ≡ ltb (frame + old / half * (old % half + overhead)) (interrupt + (all + new / half * (new % half + overhead))) ⌝ }
 {
     let out = frames::load(overhead, old);
     let put = frames::load(overhead, new);
+    if frame as u64 + out < all {
+        return true;
+    }
     frame as u64 + out < interrupt as u64 + (all + put)
 }
 
-// 17, of a reservation's cell for a node of the plan.
-fn overfull(p: &Plan, s: &Cascade, k: u32, share: u32) -> bool
-    requires { ⌜ Within (planIn (now p) .nodes) k ⌝ }
-    ensures { λ r. ⌜ r ≡ row17 (planIn (now (p .entry))) (coreOf (planIn (now (p .entry))) (now (s .entry))) k (shareOf share) .applies ⌝ }
-{
-    let all = frames::loads(p, s);
-    let at = cells::LATEST + (k as usize - 1);
-    more_than(
-        p[plan::FRAME],
-        p[plan::OVERHEAD],
-        p[plan::INTERRUPT],
-        all,
-        s[at],
-        share,
-    )
-}
-
-// 13, 14, 15 and 17: what refuses a reservation, whatever the time.
-pub fn share_row(p: &Plan, s: &Cascade, k: u64, n: u64, b: u64) -> u32
-    ensures { λ r. ⌜ r ≡ shareRowBy (now (p .entry)) k n b (now (s .entry)) ⌝ }
+// 13, 14 and 15 of a reservation.
+fn limit_row(p: &Plan, k: u64, n: u64, b: u64) -> u32
+    ensures { λ r. ⌜ r ≡ numberOf (firstRow (limitRows (planIn (now (p .entry))) k n b)) ⌝ }
 {
     if rows::no_node(p, k) {
         return 13;
@@ -72,7 +57,48 @@ pub fn share_row(p: &Plan, s: &Cascade, k: u64, n: u64, b: u64) -> u32
     if share_outside(p, n, b) {
         return 15;
     }
-    if overfull(p, s, k as u32, share_code(n as u16, b as u16)) {
+    0
+}
+
+// 17 by the sum of all loads, of a reservation that no row above refuses.
+fn overfull(p: &Plan, s: &Cascade, all: u64, k: u64, n: u64, b: u64) -> bool
+    requires { ⌜ numberOf (firstRow (limitRows (planIn (now p)) k n b)) ≡ 0 ⌝ }
+    ensures { λ r. ⌜ r ≡ row17With (planIn (now (p .entry))) (coreOf (planIn (now (p .entry))) (now (s .entry))) all k (record { packets = n; bits = b }) .applies ⌝ }
+{
+    let at = cells::LATEST + (k as usize - 1);
+    more_than(
+        p[plan::FRAME],
+        p[plan::OVERHEAD],
+        p[plan::INTERRUPT],
+        all,
+        s[at],
+        share_code(n as u16, b as u16),
+    )
+}
+
+// 13, 14, 15 and 17 of a reservation, with the sum of all loads at hand: for many of them it is worked out once.
+pub fn share_row_with(p: &Plan, s: &Cascade, all: u64, k: u64, n: u64, b: u64) -> u32
+    ensures { λ r. ⌜ r ≡ shareRowWith (now (p .entry)) all k n b (now (s .entry)) ⌝ }
+{
+    let row = limit_row(p, k, n, b);
+    if row != 0 {
+        return row;
+    }
+    if overfull(p, s, all, k, n, b) {
+        return 17;
+    }
+    0
+}
+
+// 13, 14, 15 and 17: what refuses a reservation, whatever the time.
+pub fn share_row(p: &Plan, s: &Cascade, k: u64, n: u64, b: u64) -> u32
+    ensures { λ r. ⌜ r ≡ shareRowBy (now (p .entry)) k n b (now (s .entry)) ⌝ }
+{
+    let row = limit_row(p, k, n, b);
+    if row != 0 {
+        return row;
+    }
+    if overfull(p, s, frames::loads(p, s), k, n, b) {
         return 17;
     }
     0

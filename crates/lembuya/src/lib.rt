@@ -16,6 +16,7 @@ ghost use Rattle.plan.specs.Tables.{planOf};
 ghost use Rattle.plan.specs.Reading.{reading, leaves};
 ghost use Rattle.cells.specs.Fresh.{freshCells};
 ghost use Rattle.cells.specs.Calls.{EventPromise, stepBy};
+ghost use Rattle.offers.specs.Offers.{clockOf, OffersPromise};
 ghost use Rattle.call_list.specs.Table.{putSeven};
 ghost use Rattle.call_list.specs.Promise.{ListPromise};
 ghost use Rattle.log_spec.specs.Log.{logBytes};
@@ -164,6 +165,13 @@ pub extern "C" fn lembuya_list(p: &Plan, s: &mut Cascade, calls: &[u64], answers
     ensures { λ r. ⌜ ListPromise (now (p .entry)) (now (s .entry)) (now (calls .entry)) (now (answers .entry)) r (now (s .exit)) (now (answers .exit)) ⌝ }
 {
     call_list::list(p, s, calls, answers)
+}
+
+#[no_mangle]
+pub extern "C" fn lembuya_offers(p: &Plan, s: &Cascade, offers: &[u64], answers: &mut [u8]) -> u32
+    ensures { λ r. ⌜ OffersPromise (now (p .entry)) (clockOf (now (s .entry))) (now (s .entry)) (now (offers .entry)) (now (answers .entry)) r (now (answers .exit)) ⌝ }
+{
+    offers::at_clock(p, s, offers, answers)
 }
 
 #[no_mangle]

@@ -1,0 +1,67 @@
+-- The order of the offers changes no answer: each answer is by its own offer alone.
+use Prim.Native.Nat.{ℕ, _+_, _/_, _%_, _<_}
+use mathlib.Core.Path.{_≡_, refl, sym, ap, ap₂, _∙_}
+use mathlib.Core.Bool.{not, _||_}
+use mathlib.Core.List.{List, [], _∷_, _++_}
+use lib.Dec.{eqb, ltb}
+use lib.ListN.{length, getD, take, drop, length-map}
+use lib.Seq.{take-at}
+use Rattle.rules.specs.Rows.{firstRow}
+use Rattle.cells.specs.Calls.{numberOf}
+use Rattle.offers.specs.Offers.{Offer, offersIn, answersTo, most-offers, offersRow, OffersPromise}
+use Rattle.offers.proofs.Laws.{offers-count, answers-count}
+use Rattle.offers_theory.specs.Single.{no-offer}
+use Rattle.offers_theory.specs.Order.{atPlaces, Below, OrderFree}
+use Rattle.offers_theory.proofs.Single.{answer-at, left-is, byte-at}
+
+-- the number is by how many numbers there are
+row-of : ℕ → List ℕ → ℕ
+row-of n buffer =
+    numberOf
+    (firstRow
+    (record { number = 1; applies = not (eqb (n % 3) 0) }
+    ∷ record { number = 18; applies = ltb most-offers (n / 3) || ltb (length buffer) (n / 3) } ∷ []))
+
+by-length : (numbers buffer : List ℕ) → offersRow numbers buffer ≡ row-of (length numbers) buffer
+unfolding offersRow row-of
+by-length numbers buffer = rw (offers-count numbers)
+
+module _ (P : List ℕ) (t : ℕ) (s : List ℕ) where
+  permuted : (offers : List Offer) (places : List ℕ) → Below (length offers) places
+      → answersTo P t s (atPlaces no-offer offers places) ≡ atPlaces 0 (answersTo P t s offers) places
+  unfolding answersTo
+  permuted offers [] below = refl
+  permuted offers (i ∷ places) below =
+      ap₂ (λ (a : ℕ) (more : List ℕ). a ∷ more) (sym (answer-at P t s offers i (below .0))) (permuted offers places (below .1))
+
+  -- the bytes at these places are the answers there
+  bytes-at : (numbers buffer : List ℕ) → offersRow numbers buffer ≡ 0 → (left : List ℕ)
+      → ((i : ℕ) → i < length (offersIn numbers) → getD left i 0 ≡ getD (answersTo P t s (offersIn numbers)) i 0)
+      → (places : List ℕ) → Below (length (offersIn numbers)) places
+      → atPlaces 0 (answersTo P t s (offersIn numbers)) places ≡ atPlaces 0 left places
+  bytes-at numbers buffer z left same [] below = refl
+  bytes-at numbers buffer z left same (i ∷ places) below =
+      ap₂ (λ (a : ℕ) (more : List ℕ). a ∷ more) (sym (same i (below .0))) (bytes-at numbers buffer z left same places (below .1))
+
+  bytes : (numbers others buffer : List ℕ) (places : List ℕ) → offersIn others ≡ atPlaces no-offer (offersIn numbers) places
+      → Below (length (offersIn numbers)) places → (left left′ : List ℕ)
+      → OffersPromise P t s numbers buffer 0 left → OffersPromise P t s others buffer 0 left′
+      → take (length places) left′ ≡ atPlaces 0 left places
+  bytes numbers others buffer places e below left left′ w w′ =
+      let given = answersTo P t s (offersIn others) in
+      let many : length given ≡ length places =
+      answers-count P t s (offersIn others) ∙ ap length e ∙ length-map places (λ (i : ℕ). getD (offersIn numbers) i no-offer) in
+      ap (take (length places)) (w′ .1 ∙ left-is P t s others buffer (sym (w′ .0)))
+      ∙ take-at given (drop (0 + length given) buffer) (length places) many
+      ∙ ap (answersTo P t s) e
+      ∙ permuted (offersIn numbers) places below
+      ∙ bytes-at numbers buffer (sym (w .0)) left
+      (λ i l. ap (λ (b : List ℕ). getD b i 0) (w .1) ∙ byte-at P t s numbers buffer (sym (w .0)) i l) places below
+
+  pub order-free : OrderFree P t s
+  order-free =
+      record {
+        permuted = permuted;
+        same-number = λ numbers others buffer e. by-length others buffer ∙ ap (λ (n : ℕ). row-of n buffer) e ∙ sym (by-length numbers buffer);
+        bytes = bytes;
+      }
