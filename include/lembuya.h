@@ -25,12 +25,16 @@ extern "C" {
 #define LEMBUYA_CASCADE_CELLS 1672
 /* How many numbers an answer has, a step's and in a list. */
 #define LEMBUYA_ANSWER_NUMBERS 7
+/* How many reservations may be offered in one call, and how many numbers an offer has. */
+#define LEMBUYA_MOST_OFFERS 64
+#define LEMBUYA_OFFER_NUMBERS 3
 
 /* Numbers: 0 is done or taken; the others are those of document 01, "Where each no is said", and of document 02's requests that have
  * landed. A refusal leaves all that is lent as it was, but for a refused plan's line. */
 enum {
     LEMBUYA_OK = 0,
-    /* a line is not the form allowed here, its LF is missing, or the text ends early; a call of no kind in a list */
+    /* a line is not the form allowed here, its LF is missing, or the text ends early; a call of no kind in a list; a list of calls or
+     * of offers that ends within one */
     LEMBUYA_FORM = 1,
     LEMBUYA_FIGURE = 2,     /* T, O or D is out of range; on the framing's line: D is too small for framing 5 */
     LEMBUYA_LIMIT = 3,      /* a limit of the tree is passed, a hub has no port, or the plan has no node */
@@ -43,7 +47,7 @@ enum {
     /* high: the plan is strict and n in force at t is 0; or n in force is at least 1 and b is above the b in force */
     LEMBUYA_UNRESERVED = 16,
     LEMBUYA_FULL = 17,      /* reserve: the frame can't hold it */
-    LEMBUYA_SHORT = 18      /* a lent buffer or table is too short: nothing is written there */
+    LEMBUYA_SHORT = 18      /* a lent buffer or table is too short, or there are more than 64 offers: nothing is written there */
 };
 
 /* Cases of an answer, the first of its seven numbers and what a step returns; any other is the number of the row that refused it. */
@@ -105,6 +109,16 @@ uint32_t lembuya_step(const uint32_t plan[LEMBUYA_PLAN_CELLS], uint32_t cascade[
  * call of no kind) or 18 (`answers` is shorter than seven for each call), and then nothing is done. Lengths count numbers, not bytes. */
 uint32_t lembuya_list(const uint32_t plan[LEMBUYA_PLAN_CELLS], uint32_t cascade[LEMBUYA_CASCADE_CELLS], const uint64_t *calls, size_t calls_length,
                       uint64_t *answers, size_t answers_length);
+
+/* Many reservations offered in one pass, and nothing reserved: both tables are lent for reading only. `offers` has three numbers an offer
+ * (node k, n, b), and `answers` gets a byte an offer, in their order: 0, or the number that lembuya_reserve would give for it at the
+ * cascade's clock (13, 14, 15 or 17; in a table of any content that no calls leave, 11 or 12 too). Each offer is answered as if alone
+ * against the present table, so that an offer has the same answer wherever it stands: two that fit alone may not fit together, and the
+ * node's own reservation makes room. n = 0 with b = 0 is an offer, and a node may be offered twice. 0, and the bytes behind the answers are
+ * as they were; or 1 (`offers` ends within an offer), or else 18 (more than LEMBUYA_MOST_OFFERS offers, or `answers` is shorter than a byte
+ * an offer), and then nothing is written. No offer is 0, also with an empty buffer. Lengths count numbers and bytes. */
+uint32_t lembuya_offers(const uint32_t plan[LEMBUYA_PLAN_CELLS], const uint32_t cascade[LEMBUYA_CASCADE_CELLS], const uint64_t *offers,
+                        size_t offers_length, uint8_t *answers, size_t answers_length);
 
 /* The whole log of a text (plan and events, of which 65,536 bytes are looked at) into a buffer. 0, `end` is its length, and the tables are
  * those behind the last event (a refused plan leaves them as they were); or 18, the log doesn't fit, and nothing is touched: not the

@@ -6,7 +6,8 @@ use std::iter::FusedIterator;
 
 /// A plan's hub at work: who has asked for the line, who has it, and which hub has control.
 ///
-/// It can only be made [fresh from a plan](Plan::cascade), and keeps this plan. The five events tell
+/// It can only be made [fresh from a plan](Plan::cascade), or as a text's events leave it
+/// ([`Cascade::behind`]), and keeps this plan. The five events tell
 /// it what the nodes ask for; the [step](Cascade::step) tells who gets the line. The clock is the
 /// latest time of an accepted event or a handled instant, at first 0; no call may be before it. An
 /// event is taken only when nothing before its time is due, so make the
@@ -41,9 +42,18 @@ impl Cascade {
         Cascade { plan, cells }
     }
 
+    /// What calls on a plan's fresh cascade have left.
+    pub(crate) fn left(plan: Plan, cells: Box<ffi::Cascade>) -> Cascade {
+        Cascade { plan, cells }
+    }
+
     /// The plan that this cascade was made from.
     pub fn plan(&self) -> &Plan {
         &self.plan
+    }
+
+    pub(crate) fn cells(&self) -> &ffi::Cascade {
+        &self.cells
     }
 
     /// `(normal t k b)`: a normal request of `node` stands from `t` on, for a packet of `bits`, in

@@ -11,6 +11,9 @@ pub const PLAN_CELLS: usize = 1672;
 /// the first of these, with zeros behind it: the waits of requests that stood at that moment are then counted from time 0.
 pub const CASCADE_CELLS: usize = 1672;
 
+/// How many reservations may be offered in one call.
+pub const MOST_OFFERS: usize = 64;
+
 /// A plan's table. It may be copied, stored and moved.
 pub type Plan = [u32; PLAN_CELLS];
 /// A cascade's table. It may be copied, stored and moved.
@@ -57,6 +60,19 @@ extern "C" {
         calls: *const u64,
         calls_length: usize,
         answers: *mut u64,
+        answers_length: usize,
+    ) -> u32;
+    /// Many reservations offered in one pass; none is made. `offers` has three numbers an offer: k, n and b.
+    /// `answers` gets a byte an offer, in their order: 0, or the number that `lembuya_reserve` would give for
+    /// it, as if alone, at the cascade's clock. The lengths count numbers and bytes. 0, and bytes behind the
+    /// answers are as they were; or 1 (`offers` ends within an offer) or else 18 (more than [`MOST_OFFERS`], or
+    /// `answers` is shorter than a byte an offer), and then nothing is written.
+    pub fn lembuya_offers(
+        plan: *const Plan,
+        cascade: *const Cascade,
+        offers: *const u64,
+        offers_length: usize,
+        answers: *mut u8,
         answers_length: usize,
     ) -> u32;
     /// The whole log of a text into a buffer, with both tables lent for the run. 0, and `end` is the

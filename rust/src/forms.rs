@@ -63,7 +63,8 @@ fn event(line: &str) -> Option<Call> {
 /// A number has at most so many digits.
 const MOST_DIGITS: usize = 16;
 
-fn number(word: &str) -> Option<u64> {
+/// A number as all lines have it.
+pub(crate) fn number(word: &str) -> Option<u64> {
     let digits = word.len() <= MOST_DIGITS && word.bytes().all(|byte| byte.is_ascii_digit());
     let leading_zero = word.len() > 1 && word.starts_with('0');
     // An empty word is no number either, which `parse` says.

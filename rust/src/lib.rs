@@ -15,10 +15,12 @@
 //! - [`Cascade`]: a plan's hub at work. It takes five events and the step.
 //! - [`Step`], [`Refused`]: what it answers. Their `Display` is the log's form and the documents' words.
 //! - [`Call`], [`Answer`]: the same as values, for a list of calls. A `Call` is read from an event line, and shown as one.
-//! - [`log()`], [`log_into`]: the whole log of a text.
+//! - [`Offer`], [`Answers`]: many reservations asked for in one pass, by [`Cascade::offers`]; none is made.
+//! - [`log()`], [`log_into`]: the whole log of a text, and [`Cascade::behind`] the hub as it is then.
 //! - [`ffi`]: the archive's functions as they are.
 //!
-//! The command `lembuya` over this crate (`src/bin/lembuya`) makes logs, limits, waits and pictures of texts.
+//! The command `lembuya` over this crate (`src/bin/lembuya`) makes logs, limits, waits and pictures of texts, and answers
+//! offers.
 //!
 //! # Document 01's example
 //!
@@ -83,6 +85,7 @@ pub mod ffi;
 mod forms;
 mod framing;
 mod log;
+mod offers;
 mod plan;
 mod refused;
 mod safe;
@@ -93,6 +96,7 @@ pub use cascade::{Cascade, StepsBefore};
 pub use forms::ParseCallError;
 pub use framing::Framing;
 pub use log::{log, log_into, LONGEST_LOG, LONGEST_TEXT};
+pub use offers::{Answers, Offer, ParseOfferError, MOST_OFFERS};
 pub use plan::{Events, Plan};
 pub use refused::{PlanRefused, PlanRow, Refused, RefusedLine, Short};
 pub use tree::{Hub, Place, Port};

@@ -1,6 +1,6 @@
 //! The whole program: a text in, its log out.
 
-use crate::{ffi, safe, Short};
+use crate::{ffi, safe, Cascade, Plan, PlanRefused, Short};
 
 /// How many bytes of a text are looked at; bytes behind these count as not there.
 pub const LONGEST_TEXT: usize = 65_536;
@@ -57,10 +57,70 @@ pub fn log_into(text: &[u8], log: &mut [u8]) -> Result<usize, Short> {
     }
 }
 
+impl Cascade {
+    /// The hub of a text, a plan and events, behind its last event: as the run that [`log()`] tells of leaves it. A refused event
+    /// changes nothing, but the steps before its time are made.
+    ///
+    /// # Errors
+    ///
+    /// The plan's, as [`Plan::read`] has them.
+    ///
+    /// ```
+    /// use lembuya::{Cascade, Refused};
+    ///
+    /// let text = b"(frame 100000)\n(overhead 1000)\n(interrupt 13000)\n(hub\n(node)\n)\n\
+    ///     (normal 0 1 12000)\n(until 5000)\n";
+    /// let mut hub = Cascade::behind(text)?;
+    /// assert_eq!(hub.until(4_999), Err(Refused::Time)); // the clock is at 5,000
+    /// assert_eq!(hub.step(20_000)?.to_string(), "(rest 13000 0)"); // and node 1 has been granted
+    /// # Ok::<(), Box<dyn std::error::Error>>(())
+    /// ```
+    pub fn behind(text: &[u8]) -> Result<Cascade, PlanRefused> {
+        let text = &text[..text.len().min(LONGEST_TEXT)];
+        let plan = Plan::read(text)?;
+        let (mut again, mut cells) = ([0; ffi::PLAN_CELLS], Box::new([0; ffi::CASCADE_CELLS]));
+        let (number, _) = safe::run(text, &mut again, &mut cells, &mut vec![0; LONGEST_LOG]);
+        assert_eq!(number, 0, "no log is longer than LONGEST_LOG");
+        Ok(Cascade::left(plan, cells))
+    }
+}
+
 #[cfg(test)]
 mod tests {
     use super::*;
     use crate::example::{EVENTS, LOG, PLAN};
+    use crate::{Call, Refused};
+
+    /// A hub to which each line's event is told behind the steps before its time, whether it is refused or not.
+    fn told(text: &str) -> Cascade {
+        let plan = Plan::read(text.as_bytes()).unwrap();
+        let mut hub = plan.cascade();
+        for line in text[plan.events().at..].lines() {
+            let event: Call = line.parse().unwrap();
+            hub.steps_before(event.time()).for_each(drop);
+            hub.call(event);
+        }
+        hub
+    }
+
+    #[test]
+    fn the_hub_behind_a_text_is_that_of_its_calls() {
+        let text = format!("{PLAN}{EVENTS}");
+        assert_eq!(Cascade::behind(text.as_bytes()).unwrap(), told(&text));
+        assert_eq!(Cascade::behind(PLAN.as_bytes()).unwrap(), Plan::read(PLAN.as_bytes()).unwrap().cascade());
+        // The last event is refused by 13, and the grant before its time is made all the same.
+        let text = format!("{PLAN}(normal 0 1 12000)\n(off 90000 9)\n");
+        let mut hub = Cascade::behind(text.as_bytes()).unwrap();
+        assert_eq!(hub, told(&text));
+        assert_eq!([hub.until(12_999), hub.until(13_000)], [Err(Refused::Time), Ok(())]);
+    }
+
+    #[test]
+    fn behind_a_bad_plan_is_no_hub() {
+        for text in [&b""[..], b"(frame 1)\n"] {
+            assert_eq!(Cascade::behind(text).unwrap_err(), Plan::read(text).unwrap_err());
+        }
+    }
 
     #[test]
     fn the_example_gives_its_log() {

@@ -280,7 +280,9 @@ impl fmt::Display for RefusedLine {
     }
 }
 
-/// Row 18: the buffer lent to [`log_into`](crate::log_into) is shorter than the log.
+/// Row 18: the buffer lent to [`log_into`](crate::log_into) is shorter than the log, or one lent to
+/// [`Cascade::offers_into`](crate::Cascade::offers_into) than the answers; or [`Cascade::offers`](crate::Cascade::offers) is given more
+/// than 64 offers.
 ///
 /// ```
 /// use lembuya::{log_into, Short};
@@ -302,7 +304,7 @@ impl Short {
 
 impl fmt::Display for Short {
     fn fmt(&self, f: &mut fmt::Formatter<'_>) -> fmt::Result {
-        f.pad("the lent buffer is shorter than the line")
+        f.pad("the lent buffer is shorter than the line; with offers instead: more than 64, or it is shorter than the answers")
     }
 }
 
@@ -420,7 +422,10 @@ mod tests {
                 "the number is neither 3 nor 5",
             ]
         );
-        assert_eq!(Short.to_string(), "the lent buffer is shorter than the line");
+        assert_eq!(
+            Short.to_string(),
+            "the lent buffer is shorter than the line; with offers instead: more than 64, or it is shorter than the answers"
+        );
     }
 
     /// Of row 2's two conditions a refused plan's line can only meet one.

@@ -78,6 +78,16 @@ pub fn list(plan: &Plan, cascade: &mut Cascade, calls: &[[u64; 5]], answers: &mu
     }
 }
 
+/// The number; the answers' bytes stand in `answers`.
+pub fn offers(plan: &Plan, cascade: &Cascade, offers: &[[u64; 3]], answers: &mut [u8]) -> u32 {
+    let offers = offers.as_flattened();
+    // SAFETY: both tables are whole; `offers` is read and `answers` written for its length; `answers`
+    // is borrowed mutably.
+    unsafe {
+        ffi::lembuya_offers(plan, cascade, offers.as_ptr(), offers.len(), answers.as_mut_ptr(), answers.len())
+    }
+}
+
 /// The number, and the log's length; 0 where it doesn't fit, since the archive leaves `end` as it was then.
 pub fn run(text: &[u8], plan: &mut Plan, cascade: &mut Cascade, log: &mut [u8]) -> (u32, u64) {
     let mut end = [0];
