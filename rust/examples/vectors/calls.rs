@@ -3,7 +3,7 @@
 //! Each request that adds calls adds an arm to `Runner::line`, for a line that has no answer, or to `Runner::answer`. An answer is
 //! shown as the crate shows it, so that it gains a number when the crate's does.
 
-use lembuya::{Answer, Call, Cascade, Plan};
+use lembuya::{Answer, Call, Cascade, Offer, Plan};
 
 /// What is wrong with a list, each with its line: nothing where every answer is the one given, and there is one at least.
 pub fn wrong(text: &str) -> Vec<String> {
@@ -75,6 +75,7 @@ impl Runner {
                 let bound = bound.parse().map_err(|_| no_call())?;
                 Ok(shown(cascade.call(Call::Step { bound })))
             }
+            ["offers", ..] => offers(cascade, call).ok_or_else(no_call),
             // All others so far are events, whose forms the crate knows.
             _ => Ok(shown(cascade.call(format!("({call})").parse().map_err(|_| no_call())?))),
         }
@@ -88,6 +89,35 @@ fn shown(answer: Answer) -> String {
         Answer::Refused(row) => row.number().to_string(),
         Answer::Step(step) => step.to_string().trim_matches(['(', ')']).into(),
     }
+}
+
+/// Makes the call `offers L | k n b | ..`, if it is one.
+fn offers(cascade: &Cascade, call: &str) -> Option<String> {
+    let mut parts = call.strip_prefix("offers ")?.split(" | ");
+    let length = parts.next()?.parse().ok()?;
+    let offers = parts.map(|offer| format!("(offer {offer})").parse().ok());
+    Some(offered(cascade, &offers.collect::<Option<Vec<_>>>()?, length))
+}
+
+/// What a lent buffer holds, and no answer is.
+const UNTOUCHED: u8 = 0xa5;
+
+/// The answer to offers into a buffer of this length: 0 and each offer's, or 18. A byte that should have stayed and didn't is told too,
+/// so that no answer of a list is the same.
+fn offered(cascade: &Cascade, offers: &[Offer], length: usize) -> String {
+    let mut buffer = vec![UNTOUCHED; length];
+    let (mut answer, written) = match cascade.offers_into(offers, &mut buffer) {
+        Ok(()) => ("0 |".into(), offers.len()),
+        Err(short) => (short.number().to_string(), 0),
+    };
+    let (answers, behind) = buffer.split_at(written);
+    for number in answers {
+        answer += &format!(" {number}");
+    }
+    if behind.iter().any(|byte| *byte != UNTOUCHED) {
+        answer += ", and bytes that should stay are changed";
+    }
+    answer
 }
 
 #[cfg(test)]
@@ -170,6 +200,43 @@ until 200000 = 0
         }
         let line = ["line 17: neither a call nor a plan"];
         assert_eq!(changed("reserve 0 3", "until 5\nreserve 0 3"), line);
+    }
+
+    /// Behind the example node 3 has 10,000 of the 87,000 that can be reserved.
+    #[test]
+    fn offers_are_answered_into_a_buffer() {
+        let offers = |line: &str| wrong(&format!("{EXAMPLE}{line}\n"));
+        for line in [
+            "offers 2 | 1 7 10000 | 1 7 10001 = 0 | 0 17",
+            "offers 9 | 1 0 0 | 1 0 1 | 0 0 0 | 5 65 0 | 1 65 0 | 3 7 11000 = 0 | 0 15 13 13 14 0",
+            "offers 0 = 0 |",
+            "offers 5 = 0 |",
+            "offers 1 | 1 1 512 | 1 1 512 = 18",
+            "offers 0 | 1 1 512 = 18",
+        ] {
+            assert_eq!(offers(line), Vec::<String>::new(), "{line}");
+        }
+        assert_eq!(
+            offers("offers 2 | 1 7 10001 = 0 | 0"),
+            ["line 37: offers 2 | 1 7 10001 = 0 | 17, not 0 | 0"]
+        );
+        assert_eq!(offers("offers 0 | 1 1 512 = 0 | 0"), ["line 37: offers 0 | 1 1 512 = 18, not 0 | 0"]);
+        let many = |count: usize| format!("offers 65{}", " | 1 1 512".repeat(count));
+        assert_eq!(offers(&format!("{} = 0 |{}", many(64), " 0".repeat(64))), Vec::<String>::new());
+        assert_eq!(offers(&format!("{} = 18", many(65))), Vec::<String>::new());
+        for call in [
+            "offers",
+            "offers x",
+            "offers 2 | 1 1",
+            "offers 2 | 1 1 512 | ",
+            "offers 2 1 1 512",
+            "offers 2 |",
+        ] {
+            assert_eq!(
+                offers(&format!("{call} = 18")),
+                [format!("line 37: no call that is known here: {call}")]
+            );
+        }
     }
 
     #[test]
