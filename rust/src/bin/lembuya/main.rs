@@ -1,11 +1,12 @@
-//! The command `lembuya`: a plan and its events to a log, to limits, to waits and to a picture.
+//! The command `lembuya`: a plan and its events to a log, to limits, to waits, to answers of offers and to a picture.
 //!
-//! The log is the proved archive's. What this command adds (limits, waits, pictures, JSON) is worked out from texts and logs.
+//! The log and the answers are the proved archive's. What this command adds (limits, waits, pictures, JSON) is worked out from texts and logs.
 
 mod args;
 mod json;
 mod limits;
 mod log;
+mod offers;
 mod picture;
 mod run;
 mod shares;
@@ -22,6 +23,7 @@ lembuya: the cascade hub's turns, from a plan and its events
     lembuya run     TEXT..           the log of each text
     lembuya limits  TEXT..           the frame's load, and each reserved node's delay limit
     lembuya waits   TEXT..           how long each node's requests waited, beside what limits that
+    lembuya offers  TEXT [OFFERS]    what it would answer reservations, each as if alone; none is made
     lembuya picture TEXT [LOG]       a picture of the log, as SVG
 
 TEXT holds a plan and events, as documents 01 and 02 write them; '-' is standard input. The plan's lines:
@@ -69,6 +71,7 @@ fn command(name: &str, words: Vec<String>) -> Result<End, Wrong> {
         "run" => (run::HELP, run::OPTIONS, run::command),
         "limits" => (limits::HELP, limits::OPTIONS, limits::command),
         "waits" => (waits::HELP, waits::OPTIONS, waits::command),
+        "offers" => (offers::HELP, offers::OPTIONS, offers::command),
         "picture" => (picture::HELP, picture::OPTIONS, picture::command),
         "help" | "--help" | "-h" => return args::print(HELP).map(|()| End::Done),
         _ => return Err(Wrong(format!("'{name}' is no command of it; 'lembuya --help' names them"))),
