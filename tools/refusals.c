@@ -10,7 +10,7 @@
 static struct lent {
     uint32_t plan[LEMBUYA_PLAN_CELLS], hub[LEMBUYA_CASCADE_CELLS];
     uint64_t told[4], answer[LEMBUYA_ANSWER_NUMBERS], answers[LEMBUYA_ANSWER_NUMBERS], end[1];
-    uint8_t log[16];
+    uint8_t log[16], offered[LEMBUYA_MOST_OFFERS + 1];
 } lent, expected;
 static int calls, wrong;
 
@@ -138,6 +138,23 @@ static void lists_and_runs(void)
     IS(LEMBUYA_SHORT, lembuya_run((const uint8_t *)PLAN, sizeof PLAN - 1, lent.plan, lent.hub, lent.log, sizeof lent.log, lent.end));
 }
 
+/* 1 comes before 18. Offers that are answered leave the hub and the bytes behind their answers, last here: node 2 isn't there. */
+static void offers(void)
+{
+    enum { MANY = LEMBUYA_OFFER_NUMBERS * (LEMBUYA_MOST_OFFERS + 1) };
+    static const uint64_t two[2 * LEMBUYA_OFFER_NUMBERS] = { 1, 1, 512, 2, 1, 512 }, many[MANY];
+    IS(LEMBUYA_FORM, lembuya_offers(lent.plan, lent.hub, two, 5, lent.offered, sizeof lent.offered));
+    IS(LEMBUYA_FORM, lembuya_offers(lent.plan, lent.hub, two, 4, lent.offered, 0));
+    IS(LEMBUYA_FORM, lembuya_offers(lent.plan, lent.hub, many, MANY - 1, lent.offered, 1));
+    IS(LEMBUYA_SHORT, lembuya_offers(lent.plan, lent.hub, many, MANY, lent.offered, sizeof lent.offered));
+    IS(LEMBUYA_SHORT, lembuya_offers(lent.plan, lent.hub, two, 6, lent.offered, 1));
+    IS(LEMBUYA_SHORT, lembuya_offers(lent.plan, lent.hub, two, 3, lent.offered, 0));
+    IS(LEMBUYA_OK, lembuya_offers(lent.plan, lent.hub, two, 0, lent.offered, 0));
+    expected.offered[0] = LEMBUYA_OK;
+    expected.offered[1] = LEMBUYA_NODE;
+    IS(LEMBUYA_OK, lembuya_offers(lent.plan, lent.hub, two, 6, lent.offered, sizeof lent.offered));
+}
+
 int main(void)
 {
     memset(&lent, 0xa5, sizeof lent);
@@ -155,6 +172,7 @@ int main(void)
     events();
     steps();
     lists_and_runs();
+    offers();
     if (!wrong)
         printf("refusals: %d calls, and what was lent is as it should be\n", calls);
     return wrong;

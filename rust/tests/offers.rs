@@ -1,0 +1,238 @@
+//! Offers as a caller meets them: the archive's answers in memory that is fenced, and the command.
+
+mod archive;
+
+use archive::{cells, on_all, single, Archive, Fenced};
+use lembuya::ffi::{self, MOST_OFFERS};
+use reference::hub::Call;
+use reference::random::calls::{list, Style};
+use reference::random::{plans, Random};
+use std::io::Write;
+use std::process::{Command, Output, Stdio};
+
+/// What a buffer holds before it is lent.
+const FILL: u8 = 0xa5;
+
+/// What `lembuya_offers` answers on the last or the first bytes of fenced memory: its number and the whole buffer. No table changes.
+fn offers(hub: &mut Archive, numbers: &[u64], length: usize, last: bool) -> (u32, Vec<u8>) {
+    let (mut lent, mut buffer) = (Fenced::new(numbers.len()), Fenced::new(length));
+    let lent = lent.part(last, numbers.len());
+    lent.copy_from_slice(numbers);
+    let buffer = buffer.part(last, length);
+    buffer.fill(FILL);
+    let before = (*hub.plan(), *hub.cascade());
+    let (plan, cascade) = hub.tables();
+    let (at, end) = (lent.as_ptr(), lent.len());
+    let number = unsafe { ffi::lembuya_offers(plan, cascade, at, end, buffer.as_mut_ptr(), length) };
+    assert!((*plan, *cascade) == before && lent == numbers, "what is lent for reading was changed");
+    (number, buffer.to_vec())
+}
+
+/// A node, n and b: mostly one that may fit, else one of each row.
+fn offer(random: &mut Random, nodes: u64) -> [u64; 3] {
+    let k =
+        if random.chance(90) { random.within(1..=nodes) } else { random.one_of(&[0, nodes + 1, u64::MAX]) };
+    let n = random.one_of(&[0, 1, 2, 5, 20, 64, 65, 1 << 32]);
+    let b =
+        random.one_of(&[0, 511, 512, 513, 1_500, 4_000, 11_999, 12_000, 12_001, 36_000, 36_001, u64::MAX]);
+    if n == 0 && random.chance(70) {
+        [k, 0, 0]
+    } else {
+        [k, n, b]
+    }
+}
+
+/// Some offers to a hub: each has the answer of a single reserve at the clock on a copy, whatever the table holds.
+fn try_offers(hub: &mut Archive, random: &mut Random, nodes: u64, met: &mut [u64; 18]) {
+    let count = random.within_or_end(0..=MOST_OFFERS as u64) as usize;
+    let asked: Vec<_> = (0..count).map(|_| offer(random, nodes)).collect();
+    let t = cells::cascade::time(hub.cascade(), cells::cascade::CLOCK);
+    let alone = asked.iter().map(|&[k, n, b]| {
+        let mut cascade = *hub.cascade();
+        single(hub.plan(), &mut cascade, Call::Reserve { t, k, n, b })[0]
+    });
+    let alone: Vec<u8> = alone.map(|number| number.try_into().unwrap()).collect();
+    alone.iter().for_each(|number| met[usize::from(*number)] += 1);
+    let behind = random.one_of(&[0, 1, 9]);
+    let expected: Vec<u8> = alone.into_iter().chain(std::iter::repeat_n(FILL, behind)).collect();
+    for last in [true, false] {
+        assert_eq!(
+            offers(hub, asked.as_flattened(), count + behind, last),
+            (0, expected.clone()),
+            "{asked:?}"
+        );
+    }
+}
+
+fn tally(all: &mut [u64; 18], some: [u64; 18]) {
+    all.iter_mut().zip(some).for_each(|(all, some)| *all += some);
+}
+
+#[test]
+fn each_is_answered_as_a_reserve_alone() {
+    let try_seed = |seed, met: &mut [u64; 18]| {
+        let mut random = Random::new(seed);
+        let plan = plans::plan(&mut random);
+        let mut hub = Archive::new(&plan);
+        for style in [Style::Loaded, Style::Mixed] {
+            list(&plan, random.number(), style, 200, &mut hub);
+            try_offers(&mut hub, &mut random, plan.nodes as u64, met);
+        }
+    };
+    let met = on_all(0..500, try_seed, tally);
+    println!("answers by number: {met:?}");
+    assert!([0, 13, 14, 15, 17].iter().all(|row| met[*row] > 500), "{met:?}");
+    // No run leaves a table whose clock is too late, or an instant due before it.
+    assert_eq!(met.iter().sum::<u64>(), [0, 13, 14, 15, 17].map(|row: usize| met[row]).iter().sum());
+}
+
+/// A hub's tables with some cells changed, or any numbers all over.
+fn junk(random: &mut Random) -> Archive {
+    let limit = random.one_of(&[2, 300, 140_000, 1 << 32]);
+    if random.chance(50) {
+        let mut hub = Archive::blank(0, random.chance(50));
+        hub.plan().fill_with(|| random.below(limit) as u32);
+        hub.cascade().fill_with(|| random.below(limit) as u32);
+        hub.cascade()[cells::cascade::CLOCK + cells::cascade::HIGH_HALF] = random.below(300_000) as u32;
+        return hub;
+    }
+    let plan = plans::plan(random);
+    let mut hub = Archive::new(&plan);
+    list(&plan, random.number(), Style::Loaded, 100, &mut hub);
+    for _ in 0..random.within(1..=20) {
+        let (at, cell) = (random.place(ffi::CASCADE_CELLS), random.below(limit) as u32);
+        let table: &mut [u32] = if random.chance(30) { hub.plan() } else { hub.cascade() };
+        table[at] = cell;
+    }
+    hub
+}
+
+/// A table that no run leaves may have its clock behind the latest time, or an instant due before it.
+#[test]
+fn tables_of_any_content_are_answered_as_a_reserve_too() {
+    let try_seed = |seed, met: &mut [u64; 18]| {
+        let mut random = Random::new(seed);
+        let mut hub = junk(&mut random);
+        try_offers(&mut hub, &mut random, 256, met);
+    };
+    let met = on_all(0..2_000, try_seed, tally);
+    println!("answers by number: {met:?}");
+    assert!([0, 11, 12, 13, 14, 15, 17].iter().all(|row| met[*row] > 100), "{met:?}");
+}
+
+/// 1 comes before 18, and each leaves the whole buffer.
+#[test]
+fn a_refusal_writes_nothing() {
+    let mut hub = Archive::new(&plans::plan(&mut Random::new(1)));
+    let numbers = [1, 1, 512].repeat(MOST_OFFERS + 2);
+    let mut refused = |numbers: &[u64], length: usize, number: u32| {
+        for last in [true, false] {
+            let found = offers(&mut hub, numbers, length, last);
+            assert_eq!(found, (number, vec![FILL; length]), "{} numbers, {length} bytes", numbers.len());
+        }
+    };
+    for (end, length) in [(1, 0), (1, 1), (2, 5), (4, 1), (191, 64), (193, 64), (194, 0), (196, 70)] {
+        refused(&numbers[..end], length, 1);
+    }
+    for (end, length) in [(3, 0), (6, 1), (192, 63), (195, 64), (195, 65), (195, 0), (198, 70)] {
+        refused(&numbers[..end], length, 18);
+    }
+    refused(&[], 0, 0);
+    refused(&[], 7, 0);
+}
+
+const PRESS: &str = concat!(env!("CARGO_MANIFEST_DIR"), "/../examples/press.text");
+const OFFERS: &str = concat!(env!("CARGO_MANIFEST_DIR"), "/../examples/press.offers");
+const ANSWERS: &str = include_str!("../../examples/press.answers");
+
+/// What the command did with words and standard input: status, standard output and standard error.
+fn lembuya(words: &[&str], stdin: &str) -> (i32, String, String) {
+    let mut command = Command::new(env!("CARGO_BIN_EXE_lembuya"));
+    command.arg("offers").args(words);
+    command.stdin(Stdio::piped()).stdout(Stdio::piped()).stderr(Stdio::piped());
+    let mut child = command.spawn().unwrap();
+    // A command that doesn't read its standard input may be gone already.
+    let _ = child.stdin.take().unwrap().write_all(stdin.as_bytes());
+    let Output { status, stdout, stderr } = child.wait_with_output().unwrap();
+    let text = |bytes| String::from_utf8(bytes).unwrap();
+    (status.code().unwrap(), text(stdout), text(stderr))
+}
+
+/// By hand: c is b + 1,011, and of the frame's 200,000 there are 126,857 left (`lembuya limits`). Node 3 asks for 4 × 5,011 in place of
+/// its 2 × 5,011; node 1 for 9 × 13,011 = 117,099, and for 130,110; node 4 for 20 × 1,523.
+#[test]
+fn the_presses_offers_are_answered_in_their_order() {
+    let numbers: Vec<&str> = ANSWERS.lines().map(|line| line.rsplit_once(' ').unwrap().1).collect();
+    assert_eq!(numbers, ["0)", "0)", "17)", "0)", "13)", "0)"]);
+    let (status, out, err) = lembuya(&[PRESS, OFFERS], "");
+    assert_eq!((status, out.as_str()), (0, ANSWERS));
+    let full = format!("{OFFERS}:3: refused 17: the frame can't hold it: (offer 1 10 12000)\n");
+    let node = format!("{OFFERS}:5: refused 13: k is 0 or above N: (offer 15 1 4000)\n");
+    assert_eq!(err, full + &node);
+    let (text, asked) = [PRESS, OFFERS].map(|file| std::fs::read_to_string(file).unwrap()).into();
+    assert_eq!(lembuya(&["--quiet", PRESS], &asked), (0, ANSWERS.into(), String::new()));
+    assert_eq!(lembuya(&["--quiet", "-", OFFERS], &text), (0, ANSWERS.into(), String::new()));
+    assert_eq!(lembuya(&["--quiet", PRESS, "-"], ""), (0, String::new(), String::new()));
+    // With the camera's share reserved, what the image asks for doesn't fit any more: 20,044 - 10,022 more are taken.
+    let reserved = text.replace("(until 1000000)", "(reserve 1000000 3 4 4000)");
+    let (_, out, _) = lembuya(&["-", OFFERS], &reserved);
+    assert_eq!(out, ANSWERS.replace("(offer 1 9 12000 0)", "(offer 1 9 12000 17)"));
+}
+
+/// In three passes, each against the same hub: 1 × 13,011 fits alone as often as it is asked.
+#[test]
+fn any_number_of_offers_is_answered() {
+    let asked = "(offer 1 1 12000)\n".repeat(150);
+    let (status, out, err) = lembuya(&[PRESS], &(asked.clone() + "(offer 1 65 0)\n"));
+    assert_eq!((status, out), (0, asked.replace("12000)", "12000 0)") + "(offer 1 65 0 14)\n"));
+    assert_eq!(err, "-:151: refused 14: n above 64: (offer 1 65 0)\n");
+}
+
+/// A text's refused events are said as `run` says them, and its hub goes on behind its last event.
+#[test]
+fn the_texts_refusals_are_said_too() {
+    let plan = "(frame 100000)\n(overhead 1000)\n(interrupt 13000)\n(hub\n(node)\n)\n";
+    let text = format!("{plan}(normal 0 1 511)\n(reserve 5 1 1 12000)\n");
+    // The plan has one node, so that each offer is refused, by 13 or by 17.
+    let (status, out, err) = lembuya(&["-", OFFERS], &text);
+    assert_eq!((status, out.lines().count(), err.lines().count()), (0, 6, 7));
+    assert!(err.starts_with("-:7: refused 15: b outside 512 to "), "{err}");
+    let (status, out, err) = lembuya(&["--quiet", "-", OFFERS], "(frame 1)\n");
+    assert_eq!((status, out.as_str()), (1, ""));
+    assert_eq!(err, "-:1: refused 2: T, O or D out of range: (frame 1)\n");
+}
+
+#[test]
+fn a_line_that_is_no_offer_is_bad_usage() {
+    let lines =
+        ["", "(offer 1 1)", "(reserve 0 1 1 512)", "(offer 1 1 512 0)", "(offer 1 1 10000000000000000)"];
+    for line in lines {
+        let found = lembuya(&[PRESS], &format!("(offer 1 1 512)\n{line}\n(offer 1 1 512)\n"));
+        let words = "lembuya: -:2: that is no (offer k n b), or its LF is missing\n";
+        assert_eq!(found, (2, String::new(), words.into()), "{line}");
+    }
+    let (status, out, err) = lembuya(&[PRESS], "(offer 1 1 512)");
+    assert_eq!((status, out.as_str()), (2, ""));
+    assert!(err.starts_with("lembuya: -:1: "), "{err}");
+}
+
+#[test]
+fn bad_usage_is_status_2_and_help_is_0() {
+    let refused: &[&[&str]] = &[
+        &[],
+        &["-"],
+        &["-", "-"],
+        &[PRESS, OFFERS, OFFERS],
+        &["--json", PRESS],
+        &["/no/such/file"],
+        &[PRESS, "/no/such/file"],
+    ];
+    for words in refused {
+        let (status, out, err) = lembuya(words, "");
+        assert_eq!((status, out.as_str()), (2, ""), "{words:?}");
+        assert!(err.starts_with("lembuya: "), "{words:?}: {err}");
+    }
+    let (status, out, err) = lembuya(&["--help"], "");
+    assert_eq!((status, err.as_str()), (0, ""));
+    assert!(out.starts_with("lembuya offers ") && out.contains("(offer k n b NUMBER)"), "{out}");
+}
