@@ -3,6 +3,7 @@
 use crate::cases::{Case, Row, LOADS};
 use crate::hubs::{ARCHIVE, BIT_SETS, PEER};
 use crate::longest::{Longest, Worst};
+use crate::offers::Offers;
 use crate::page::{commas, SHORTEST};
 use crate::tables::DEEPEST;
 use std::fmt::Write;
@@ -32,13 +33,26 @@ fn at_most(goal: &str, limit: f64, ratios: impl Iterator<Item = (f64, String)>) 
     Goal { goal: goal.into(), limit: format!("{limit:.2} ×"), worst: format!("{ratio:.2} ×"), place, met }
 }
 
-pub fn goals(rows: &[(&Case, &Row)], deepest: &Worst) -> Vec<Goal> {
+pub fn goals(rows: &[(&Case, &Row)], deepest: &Worst, offers: Offers) -> Vec<Goal> {
     let mut goals = calls(rows);
     goals.extend(longest_steps(rows, deepest));
     let logs = rows.iter().map(|(case, row)| (row.log.ratio(ARCHIVE, PEER), name(case)));
     goals.push(at_most("a whole log, of the peer's", 1.0, logs));
     goals.push(growth(rows));
+    goals.push(under_a_microsecond(offers));
     goals
+}
+
+/// Request 9's goal.
+fn under_a_microsecond(offers: Offers) -> Goal {
+    let limit = 1_000.0;
+    Goal {
+        goal: "64 offers against 256 nodes, below a microsecond".into(),
+        limit: format!("{} ns", commas(limit)),
+        worst: format!("{} ns", commas(offers.pass)),
+        place: "all nodes reserved".into(),
+        met: offers.pass < limit,
+    }
 }
 
 fn calls(rows: &[(&Case, &Row)]) -> Vec<Goal> {

@@ -5,7 +5,7 @@
 //!
 //! - `plans`, `loads`, `probes`: what is asked of whom.
 //! - `hubs`: who is asked; `rounds`: how long a load and a text take each of them.
-//! - `clock`, `longest`: single calls by the processor's clock.
+//! - `clock`, `longest`, `offers`: single calls by the processor's clock.
 //! - `cases`: the figures of each plan.
 //! - `page`, `goals`, `tables`: what is written.
 //!
@@ -21,6 +21,7 @@ mod goals;
 mod hubs;
 mod loads;
 mod longest;
+mod offers;
 mod page;
 mod plans;
 mod probes;
@@ -31,9 +32,10 @@ use cases::{case, measure, Case, Row};
 use clock::Clock;
 use goals::{goal_table, goals};
 use longest::{longest, Effort};
+use offers::offers;
 use page::{head, method, why};
 use plans::deepest;
-use tables::{call_table, growth_tables, log_table, longest_table};
+use tables::{call_table, growth_tables, log_table, longest_table, offers_table};
 
 /// What is measured: nodes and levels. The second part shows only how the cost grows.
 const SHAPES: [(usize, usize); 8] = [(4, 1), (32, 1), (4, 2), (32, 2), (256, 2), (4, 5), (32, 5), (256, 5)];
@@ -58,9 +60,10 @@ fn main() {
         eprintln!("run {run} of {runs}");
         let rows = measure(&clock, &cases, effort);
         let deepest = longest(&clock, &deepest_plan, &[], effort);
+        let offers = offers(&clock, effort);
         let all: Vec<(&Case, &Row)> = cases.iter().zip(&rows).collect();
         let main = &all[..SHAPES.len()];
-        all_goals.push(goals(main, &deepest));
+        all_goals.push(goals(main, &deepest, offers));
 
         page.clear();
         head(&mut page, main, &deepest);
@@ -69,6 +72,7 @@ fn main() {
         method(&mut page, effort);
         call_table(&mut page, main);
         longest_table(&mut page, main, &deepest);
+        offers_table(&mut page, offers);
         log_table(&mut page, main);
         growth_tables(&mut page, &all);
     }

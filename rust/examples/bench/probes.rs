@@ -64,7 +64,7 @@ fn start_held(plan: &Plan) -> Vec<Call> {
 }
 
 /// All nodes have reserved one packet, and frame 1 starts.
-fn all_reserved(plan: &Plan) -> Maker {
+pub fn all_reserved(plan: &Plan) -> Maker {
     let mut maker = Maker::new(plan);
     for k in 1..=plan.nodes as u64 {
         maker.call(Call::Reserve { t: 0, k, n: 1, b: 512 });

@@ -4,6 +4,7 @@ use crate::cases::{Case, Row, LOADS};
 use crate::goals::name;
 use crate::hubs::{ARCHIVE, BIT_SETS, PEER};
 use crate::longest::Worst;
+use crate::offers::Offers;
 use crate::page::commas;
 use crate::rounds::Rounds;
 use std::fmt::Write;
@@ -68,6 +69,19 @@ pub fn longest_table(page: &mut String, rows: &[(&Case, &Row)], deepest: &Worst)
     }
     line(DEEPEST, deepest);
     writeln!(page).unwrap();
+}
+
+pub fn offers_table(page: &mut String, offers: Offers) {
+    writeln!(
+        page,
+        "## Offers\n\nNanoseconds of 64 offers to as many nodes, against 256 that all have a reservation; each second one fits, and the others are refused by 17. \
+         Without `lembuya_offers` a caller copies the table for each and reserves there.\n\n\
+         | `lembuya_offers` | an offer | 64 copies and `lembuya_reserve` |\n|---|---|---|\n| {} | {:.1} | {} |\n",
+        commas(offers.pass),
+        offers.pass / 64.0,
+        commas(offers.copies)
+    )
+    .unwrap();
 }
 
 pub fn log_table(page: &mut String, rows: &[(&Case, &Row)]) {

@@ -1,6 +1,7 @@
 //! The command `lembuya`: a plan and its events to a log, to limits, to waits, to answers of offers and to a picture.
 //!
-//! The log and the answers are the proved archive's. What this command adds (limits, waits, pictures, JSON) is worked out from texts and logs.
+//! The log and the answers are the proved archive's. What this command adds (limits, waits, pictures, JSON) is worked out from texts
+//! and logs.
 
 mod args;
 mod json;
