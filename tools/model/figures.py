@@ -1,4 +1,4 @@
-"""The figures of document 01 and of request 3, each named once. Times are in bit times, lengths in bits."""
+"""The figures of document 01 and of requests 3 and 9, each named once. Times are in bit times, lengths in bits."""
 
 # "No leading zeros except 0 itself; a number has at most 16 digits; a line has at most 80 bytes without its LF."
 MOST_DIGITS = 16
@@ -26,3 +26,6 @@ FRAMING_MEANT = 3
 # Refused is an "n above 64", and a "t above 10^15".
 MOST_PACKETS = 64
 LATEST_TIME = 10**15
+
+# By request 9, "a buyer planning a line offers up to 64 reservations" in one call.
+MOST_OFFERS = 64
