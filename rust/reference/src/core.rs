@@ -143,6 +143,16 @@ impl<M: Turns> Core<M> {
         &mut self.turns
     }
 
+    /// The clock.
+    pub fn clock(&self) -> u64 {
+        self.clock
+    }
+
+    /// The latest accepted reservations, n and b; node k at k - 1.
+    pub fn latest(&self) -> Vec<(u64, u64)> {
+        self.nodes.iter().map(|node| (node.latest.n, node.latest.b)).collect()
+    }
+
     /// "Frame f runs from f × T up to, not including, (f + 1) × T."
     fn frame_at(&self, t: u64) -> u64 {
         t / self.frame

@@ -113,6 +113,16 @@ impl<M: Turns> Hub<M> {
         self.core.turns()
     }
 
+    /// The clock.
+    pub fn clock(&self) -> u64 {
+        self.core.clock()
+    }
+
+    /// The latest accepted reservations, n and b; node k at k - 1.
+    pub fn latest(&self) -> Vec<(u64, u64)> {
+        self.core.latest()
+    }
+
     /// Takes a call and answers it.
     pub fn call(&mut self, call: Call) -> Answer {
         let event = match call {

@@ -9,6 +9,7 @@
 //! - [`core`]: everything that doesn't depend on how a turn is chosen.
 //! - [`flat`], [`control`]: the two ways of choosing it.
 //! - [`hub`], [`log`]: the six calls and their answers; the whole program.
+//! - [`offers`]: many reservations offered in one pass, and none made.
 //! - [`fast`]: the flat hub again, written for speed.
 //! - [`peer`]: control again, written for speed.
 //! - [`random`], [`shrink`], [`demand3`], [`waits`]: tools to try a hub with.
@@ -23,6 +24,7 @@ pub mod fast;
 pub mod flat;
 pub mod hub;
 pub mod log;
+pub mod offers;
 pub mod peer;
 pub mod plan;
 pub mod random;

@@ -3,75 +3,38 @@
 
 mod common;
 
-use common::{hubs, vectors};
-use reference::core::Class;
+use common::calls::{answer, call, files, said, Said};
+use common::hubs;
 use reference::hub::{Answer, Call};
-use reference::plan::{read, Plan};
+use reference::plan::Plan;
 use std::path::PathBuf;
 
-fn numbers(words: &[&str]) -> Vec<u64> {
-    words.iter().map(|word| word.parse().expect("a number")).collect()
-}
-
-fn call(line: &str) -> Option<Call> {
-    let words: Vec<&str> = line.split(' ').collect();
-    if ["offers", "fit", "price", "bill"].contains(&words[0]) {
-        return None;
-    }
-    Some(match (words[0], &numbers(&words[1..])[..]) {
-        ("normal", &[t, k, b]) => Call::Normal { t, k, b },
-        ("high", &[t, k, b]) => Call::High { t, k, b },
-        ("off", &[t, k]) => Call::Off { t, k },
-        ("reserve", &[t, k, n, b]) => Call::Reserve { t, k, n, b },
-        ("until", &[t]) => Call::Until { t },
-        ("step", &[t]) => Call::Step { t },
-        _ => panic!("{line}"),
-    })
-}
-
-fn answer(line: &str) -> Answer {
-    let words: Vec<&str> = line.split(' ').collect();
-    match words[0] {
-        "quiet" => Answer::Quiet,
-        "rest" => {
-            let rest = numbers(&words[1..]);
-            Answer::Rest { time: rest[0], moves: rest[1] }
-        }
-        "grant" => {
-            let [time, node, class, end, moves, wait] = numbers(&words[1..])[..] else { panic!("{line}") };
-            let class = if class == 2 { Class::High } else { Class::Normal };
-            Answer::Grant { time, node, class, end, moves, wait }
-        }
-        "0" => Answer::Taken,
-        row => Answer::Refused(row.parse().expect("a row")),
-    }
+fn changes_nothing(line: &str) -> bool {
+    ["offers ", "fit ", "price ", "bill "].iter().any(|word| line.starts_with(word))
 }
 
 /// The plan of a file and its list of calls and answers.
 fn list(path: &PathBuf) -> (Plan, Vec<(Call, Answer)>) {
-    let text = std::fs::read_to_string(path).unwrap();
-    let (before, behind) = text.split_once("\n.\n").expect("the plan's end");
-    let plan = before.split_once("plan\n").expect("one plan").1;
-    let plan = read(format!("{plan}\n").as_bytes()).expect("a good plan").plan;
-    let lines = behind.lines().filter(|line| !line.starts_with('#'));
-    let lines = lines.filter_map(|line| line.split_once(" = "));
-    (plan, lines.filter_map(|(said, heard)| Some((call(said)?, answer(heard)))).collect())
+    let (mut plan, mut list) = (None, Vec::new());
+    for said in said(path) {
+        match said {
+            Said::Plan(only) => assert_eq!(plan.replace(only), None, "{path:?} has one plan"),
+            Said::Call(line, heard) if !changes_nothing(&line) => list.push((call(&line), answer(&heard))),
+            Said::Call(..) => {}
+        }
+    }
+    (plan.expect("a plan"), list)
 }
 
 #[test]
 fn every_answer_is_the_one_given() {
-    let files = std::fs::read_dir(vectors().join("calls")).unwrap().map(|entry| entry.unwrap().path());
     let (mut lists, mut grants, mut waited) = (0, 0, 0);
-    for path in files {
-        let name = path.file_name().unwrap().to_str().unwrap();
-        if !["09", "10", "12"].iter().any(|request| name.starts_with(request)) {
-            continue;
-        }
+    for path in files(&["09", "10", "12"]) {
         let (plan, list) = list(&path);
         for (which, hub) in hubs(&plan).iter_mut().enumerate() {
             for (place, &(call, answer)) in list.iter().enumerate() {
                 let expected = if which < 2 { answer } else { answer.without_moves() };
-                assert_eq!(hub.call(call), expected, "{name}, hub {which}, call {place}: {call:?}");
+                assert_eq!(hub.call(call), expected, "{path:?}, hub {which}, call {place}: {call:?}");
             }
         }
         lists += 1;

@@ -1,8 +1,9 @@
-//! Random plans, lists of calls and texts. Each comes from a seed alone, so a
+//! Random plans, lists of calls, offers and texts. Each comes from a seed alone, so a
 //! seed is enough to find it again.
 
 pub mod calls;
 pub mod framings;
+pub mod offers;
 pub mod plans;
 pub mod stricts;
 pub mod texts;

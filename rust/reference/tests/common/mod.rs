@@ -1,6 +1,8 @@
 //! What several tests use.
 #![allow(dead_code)]
 
+pub mod calls;
+
 use reference::control::Control;
 use reference::core::{Class, Turns};
 use reference::fast::Fast;
