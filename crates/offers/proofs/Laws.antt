@@ -40,7 +40,7 @@ answers-count P t s [] = refl
 answers-count P t s (o ∷ more) = ap suc (answers-count P t _ more)
 
 -- answer i is by offer i and the table alone
-offer-at : (P : List ℕ) (t : ℕ) (s ns : List ℕ) (i : ℕ) → i < length ns / 3 → getD (answersTo P t s (offersIn ns)) i 0 ≡ answerTo P t s (offerAt ns i)
+pub offer-at : (P : List ℕ) (t : ℕ) (s ns : List ℕ) (i : ℕ) → i < length ns / 3 → getD (answersTo P t s (offersIn ns)) i 0 ≡ answerTo P t s (offerAt ns i)
 unfolding answersTo offersIn
 offer-at P t s [] i l = absurd (omega arith)
 offer-at P t s (k ∷ []) i l = absurd (omega arith)

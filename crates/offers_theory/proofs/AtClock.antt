@@ -1,6 +1,6 @@
 -- At its own clock no hub that a run reaches meets 11 or 12: the clock never passes 10^15, and nothing is due before it.
 use Prim.Native.Nat.{ℕ, _≤_}
-use mathlib.Core.Path.{_≡_, refl, sym, subst}
+use mathlib.Core.Path.{_≡_, refl, sym, ap, subst, _∙_}
 use mathlib.Core.Bool.{true, false}
 use mathlib.Core.List.{List, [], _∷_}
 use native.Mathlib.Omega.{arith}
@@ -15,9 +15,10 @@ use Rattle.rules.specs.Promises.{OnTime, waits}
 use Rattle.rules.specs.Machine.{Machine, Hub, Outcome}
 use Rattle.rules.specs.Control.{Control, control}
 use Rattle.rules.specs.Run.{Entry, made}
+use Rattle.rules.specs.Words.{clockAt}
 use Rattle.rules.proofs.Core.CallCases.{in-time, Course, refusal, event, quietly, granting, resting, course}
 use Rattle.rules.proofs.Core.ClockAdvance.{advance-clock, due-late}
-use Rattle.rules.proofs.Core.AlwaysTold.{event-clock}
+use Rattle.rules.proofs.Core.AlwaysTold.{event-clock, clock-told}
 use Rattle.rules.proofs.Core.Sound.{Sound}
 use Rattle.rules.proofs.Core.AlwaysSound.{sound}
 use Rattle.rules.proofs.Laws.Passes.{Which, which, yes′, no′}
@@ -85,11 +86,15 @@ module _ (text : List ℕ) (nodes hubs at line : ℕ) (t : TakenAs text nodes hu
               (sound p (drawn .figures) (control p) (control-follows p drawn) (drawn .some-node) (callsOf past)));
         }
 
-    pub at-clock : AtClock P p s
-    unfolding performBy eventLeft
+    pub at-clock : AtClock P p past s
+    unfolding performBy eventLeft coreOf
     at-clock =
         let passed = taken-row (rowBy P (until (clockOf s)) s) (run .takes (until (clockOf s)) (waits (clockOf s) on-time)) in
         record {
+          clock =
+              ap (λ (h : Hub Control). h .core .clock) (run .hub)
+              ∙ sym (clock-told p (drawn .figures) (control p) (control-follows p drawn) (drawn .some-node) (callsOf past))
+              ∙ ap clockAt (sym (run .by-rules));
           on-time = passed;
           by-rows = λ o. sym (reserve-goes-on P s (clockOf s) (o .node) (o .packets) (o .bits) (sym passed) refl refl);
           by-rules = λ o. run .answers (reserve (clockOf s) (o .node) (o .packets) (o .bits));

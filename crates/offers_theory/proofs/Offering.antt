@@ -49,5 +49,5 @@ in-lists text nodes hubs at line t {xs = xs} {s = s} made =
       no-trace = no-trace xs;
       goes-on = λ q r left w. after made (besides q (heard r left) s tt (as-aside P s q r left w));
       at-clock = at-clock text nodes hubs at line t (projected offering xs) s (same-hub offering offers-lawful P made .calls);
-      singly = singly P s;
+      singly = singly P (clockOf s) s;
     }

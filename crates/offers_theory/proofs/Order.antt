@@ -1,38 +1,28 @@
 -- The order of the offers changes no answer: each answer is by its own offer alone.
-use Prim.Native.Nat.{ℕ, _+_, _/_, _%_, _<_}
+use Prim.Native.Nat.{ℕ, zero, suc, _+_, _<_}
 use mathlib.Core.Path.{_≡_, refl, sym, ap, ap₂, _∙_}
-use mathlib.Core.Bool.{not, _||_}
-use mathlib.Core.List.{List, [], _∷_, _++_}
-use lib.Dec.{eqb, ltb}
+use mathlib.Core.List.{List, [], _∷_}
+use native.Mathlib.Omega.{arith}
 use lib.ListN.{length, getD, take, drop, length-map}
 use lib.Seq.{take-at}
-use Rattle.rules.specs.Rows.{firstRow}
-use Rattle.cells.specs.Calls.{numberOf}
-use Rattle.offers.specs.Offers.{Offer, offersIn, answersTo, most-offers, offersRow, OffersPromise}
+use Rattle.offers.specs.Offers.{Offer, offersIn, answerTo, answersTo, offersRow, OffersPromise}
 use Rattle.offers.proofs.Laws.{offers-count, answers-count}
-use Rattle.offers_theory.specs.Single.{no-offer}
-use Rattle.offers_theory.specs.Order.{atPlaces, Below, OrderFree}
-use Rattle.offers_theory.proofs.Single.{answer-at, left-is, byte-at}
-
--- the number is by how many numbers there are
-row-of : ℕ → List ℕ → ℕ
-row-of n buffer =
-    numberOf
-    (firstRow
-    (record { number = 1; applies = not (eqb (n % 3) 0) }
-    ∷ record { number = 18; applies = ltb most-offers (n / 3) || ltb (length buffer) (n / 3) } ∷ []))
-
-by-length : (numbers buffer : List ℕ) → offersRow numbers buffer ≡ row-of (length numbers) buffer
-unfolding offersRow row-of
-by-length numbers buffer = rw (offers-count numbers)
+use Rattle.offers_theory.specs.Order.{no-offer, atPlaces, Below, OrderFree}
+use Rattle.offers_theory.proofs.Single.{row-of, by-length, left-is, byte-at}
 
 module _ (P : List ℕ) (t : ℕ) (s : List ℕ) where
+  answer-at : (offers : List Offer) (i : ℕ) → i < length offers → getD (answersTo P t s offers) i 0 ≡ answerTo P t s (getD offers i no-offer)
+  unfolding answersTo
+  answer-at [] i l = absurd (omega arith)
+  answer-at (o ∷ more) zero l = refl
+  answer-at (o ∷ more) (suc i) l = answer-at more i (omega arith)
+
   permuted : (offers : List Offer) (places : List ℕ) → Below (length offers) places
       → answersTo P t s (atPlaces no-offer offers places) ≡ atPlaces 0 (answersTo P t s offers) places
   unfolding answersTo
   permuted offers [] below = refl
   permuted offers (i ∷ places) below =
-      ap₂ (λ (a : ℕ) (more : List ℕ). a ∷ more) (sym (answer-at P t s offers i (below .0))) (permuted offers places (below .1))
+      ap₂ (λ (a : ℕ) (more : List ℕ). a ∷ more) (sym (answer-at offers i (below .0))) (permuted offers places (below .1))
 
   -- the bytes at these places are the answers there
   bytes-at : (numbers buffer : List ℕ) → offersRow numbers buffer ≡ 0 → (left : List ℕ)
@@ -56,7 +46,7 @@ module _ (P : List ℕ) (t : ℕ) (s : List ℕ) where
       ∙ ap (answersTo P t s) e
       ∙ permuted (offersIn numbers) places below
       ∙ bytes-at numbers buffer (sym (w .0)) left
-      (λ i l. ap (λ (b : List ℕ). getD b i 0) (w .1) ∙ byte-at P t s numbers buffer (sym (w .0)) i l) places below
+      (λ i l. ap (λ (b : List ℕ). getD b i 0) (w .1) ∙ byte-at P t s numbers buffer (sym (w .0)) i (omega (arith, offers-count numbers))) places below
 
   pub order-free : OrderFree P t s
   order-free =

@@ -44,5 +44,5 @@ pub record InLists (P : List ℕ) (p : Plan) (xs : List (Item offering)) (s : Li
   pub goes-on : (q : Lent) (r : ℕ) (left : List ℕ) → OffersPromise P (clockOf s) s (q .numbers) (q .buffer) r left
       → Extended offering P (aside q (heard r left) ∷ xs) tt s
   -- and what it answers
-  pub at-clock : AtClock P p s
-  pub singly : Singly P s
+  pub at-clock : AtClock P p (projected offering xs) s
+  pub singly : Singly P (clockOf s) s

@@ -4,7 +4,10 @@ use mathlib.Core.Path.{_≡_}
 use mathlib.Core.List.{List, [], _∷_, map}
 use lib.ListN.{length, getD, take}
 use Rattle.offers.specs.Offers.{Offer, offersIn, offersRow, answersTo, OffersPromise}
-use Rattle.offers_theory.specs.Single.{no-offer}
+
+-- what is read where a list has no offer
+abbrev pub no-offer : Offer
+no-offer = record { node = 0; packets = 0; bits = 0 }
 
 -- the items that stand at these places of a list, counted from 0, in this order; in a permutation each place stands once
 abbrev pub atPlaces : {A : Type 0} → A → List A → List ℕ → List A
