@@ -189,8 +189,13 @@ impl Cascade {
     /// # Ok::<(), Box<dyn std::error::Error>>(())
     /// ```
     pub fn offers_into(&self, offers: &[Offer], answers: &mut [u8]) -> Result<(), Short> {
-        let offers: Vec<_> = offers.iter().map(|offer| [offer.node, offer.packets, offer.bits]).collect();
-        match safe::offers(self.plan().cells(), self.cells(), &offers, answers) {
+        // One more than may be offered: a longer list is asked as its first 65, so that the archive itself says the 18.
+        let mut numbers = [[0; 3]; MOST_OFFERS + 1];
+        for (numbers, offer) in numbers.iter_mut().zip(offers) {
+            *numbers = [offer.node, offer.packets, offer.bits];
+        }
+        let asked = &numbers[..offers.len().min(MOST_OFFERS + 1)];
+        match safe::offers(self.plan().cells(), self.cells(), asked, answers) {
             0 => Ok(()),
             18 => Err(Short),
             number => unreachable!("no offers are refused by {number}"),
@@ -272,12 +277,29 @@ mod tests {
     #[test]
     fn up_to_64_are_answered() {
         let hub = Plan::read(PLAN.as_bytes()).unwrap().cascade();
-        let offers: Vec<Offer> = (0..65).map(|node| offer(node, 1, 512)).collect();
+        let offers: Vec<Offer> = (0..1_000).map(|node| offer(node, 1, 512)).collect();
         let answers = hub.offers(&offers[..MOST_OFFERS]).unwrap();
         let fits: Vec<bool> = answers.into_iter().map(|answer| answer.is_ok()).collect();
         assert_eq!(fits, (0..64).map(|node| (1..=4).contains(&node)).collect::<Vec<_>>());
-        assert_eq!(hub.offers(&offers), Err(Short));
+        for count in [65, 66, 128, 1_000] {
+            assert_eq!(hub.offers(&offers[..count]), Err(Short), "{count} offers");
+            let mut buffer = vec![99; count];
+            assert_eq!(hub.offers_into(&offers[..count], &mut buffer), Err(Short), "{count} offers");
+            assert_eq!(buffer, vec![99; count]);
+        }
         assert!(hub.offers(&[]).unwrap().is_empty());
+    }
+
+    /// Each count gets as many answers, and of an answered list the first ones are those of a shorter list.
+    #[test]
+    fn every_count_up_to_64_is_answered_as_a_part_of_64() {
+        let hub = Plan::read(PLAN.as_bytes()).unwrap().cascade();
+        let offers: Vec<Offer> =
+            (0..64).map(|place| offer(place % 6, 1 + place, 512 + 100 * place)).collect();
+        let whole = hub.offers(&offers).unwrap();
+        for count in 0..=64 {
+            assert_eq!(hub.offers(&offers[..count]).unwrap()[..], whole[..count], "{count} offers");
+        }
     }
 
     #[test]
