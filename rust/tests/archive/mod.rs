@@ -52,6 +52,12 @@ impl<T: Copy> Fenced<T> {
         unsafe { std::slice::from_raw_parts_mut(self.map.add(PAGE).cast(), length) }
     }
 
+    /// Until the next call of this with false, what writes an element faults.
+    pub fn seal(&mut self, sealed: bool) {
+        let protection = if sealed { 1 } else { 3 };
+        assert_eq!(unsafe { mprotect(self.map.add(PAGE), self.bytes, protection) }, 0, "mprotect");
+    }
+
     /// The last or the first elements.
     pub fn part(&mut self, last: bool, length: usize) -> &mut [T] {
         if last {
@@ -154,6 +160,13 @@ pub fn list(plan: &ffi::Plan, cascade: &mut ffi::Cascade, calls: &[u64], answers
     }
 }
 
+/// What `lembuya_offers` answers.
+pub fn offers(plan: &ffi::Plan, cascade: &ffi::Cascade, offers: &[u64], answers: &mut [u8]) -> u32 {
+    unsafe {
+        ffi::lembuya_offers(plan, cascade, offers.as_ptr(), offers.len(), answers.as_mut_ptr(), answers.len())
+    }
+}
+
 /// A plan's hub in the archive, its tables in fenced memory.
 pub struct Archive {
     plan: Fenced<u32>,
@@ -201,6 +214,19 @@ impl Archive {
         let plan = self.plan.part(self.last, PLAN_CELLS).try_into().unwrap();
         let cascade = self.cascade.part(self.last, CASCADE_CELLS).try_into().unwrap();
         (plan, cascade)
+    }
+
+    /// What is asked of both tables while they may only be read.
+    pub fn sealed<T>(&mut self, ask: impl FnOnce(&ffi::Plan, &ffi::Cascade) -> T) -> T {
+        let seal = |archive: &mut Archive, sealed| {
+            archive.plan.seal(sealed);
+            archive.cascade.seal(sealed);
+        };
+        seal(self, true);
+        let (plan, cascade) = self.tables();
+        let told = ask(plan, cascade);
+        seal(self, false);
+        told
     }
 
     /// A call's seven numbers.

@@ -12,7 +12,7 @@ use reference::random::{plans, texts, Random};
 
 /// How a table's cells come about.
 #[derive(Clone, Copy, Debug)]
-enum Junk {
+pub enum Junk {
     Uniform,
     Small,
     /// Any number where the code takes one as it is, and numbers about the limits where it tests them.
@@ -27,7 +27,7 @@ enum Junk {
 /// A cascade's figures, hubs and first requests: many of the cells that calls look at lie among these.
 const FRONT: usize = cascade::NODES + 4;
 
-const JUNKS: [Junk; 7] =
+pub const JUNKS: [Junk; 7] =
     [Junk::Uniform, Junk::Small, Junk::Shaped, Junk::Mutated, Junk::Ones, Junk::Zeros, Junk::Real];
 
 fn small(random: &mut Random) -> u32 {
@@ -109,6 +109,18 @@ fn real(random: &mut Random, hub: &mut Archive) {
     list(&plan, random.number(), Style::Loaded, length, hub);
 }
 
+/// A node, n and b about the limits.
+pub fn any_three(random: &mut Random) -> [u64; 3] {
+    let k = match random.below(8) {
+        0 => random.number(),
+        1 => random.one_of(&[0, 1, 256, 257, u64::MAX, 1 << 32]),
+        _ => random.below(258),
+    };
+    let b = random.one_of(&[0, 511, 512, 1_000, 12_000, 12_001, 36_000, 36_001, u64::MAX]);
+    let n = random.one_of(&[0, 1, 2, 64, 65, u64::MAX]);
+    [k, n, b]
+}
+
 /// A call about the limits and about the table's own times.
 fn any_call(random: &mut Random, table: &ffi::Cascade) -> Call {
     let (clock, end) = (cascade::time(table, cascade::CLOCK), cascade::time(table, cascade::END));
@@ -121,13 +133,7 @@ fn any_call(random: &mut Random, table: &ffi::Cascade) -> Call {
     };
     let t =
         if random.chance(50) { t.clamp(clock.min(1_000_000_000_000_000), 1_000_000_000_000_000) } else { t };
-    let k = match random.below(8) {
-        0 => random.number(),
-        1 => random.one_of(&[0, 1, 256, 257, u64::MAX, 1 << 32]),
-        _ => random.below(258),
-    };
-    let b = random.one_of(&[0, 511, 512, 1_000, 12_000, 12_001, 36_000, 36_001, u64::MAX]);
-    let n = random.one_of(&[0, 1, 2, 64, 65, u64::MAX]);
+    let [k, n, b] = any_three(random);
     match random.below(8) {
         0 => Call::Normal { t, k, b },
         1 => Call::High { t, k, b },
@@ -180,9 +186,8 @@ fn check_wait(table: &ffi::Plan, before: &ffi::Cascade, seven: [u64; 7], found: 
     wait == from.map_or(0, |from| time.saturating_sub(from))
 }
 
-/// Two pairs of tables of random content that every call must treat alike, and whether their plans are strict. They are equal but
-/// for the strict line's cell: any number but 0 is strict, and one as good as another.
-fn pairs(random: &mut Random, junks: [Junk; 2]) -> (Archive, Archive, bool) {
+/// A plan's and a cascade's table of random content.
+pub fn spoiled(random: &mut Random, junks: [Junk; 2]) -> Archive {
     let mut one = Archive::blank(0, random.chance(70));
     real(random, &mut one);
     spoil(random, junks[0], one.plan(), plan_cell);
@@ -194,6 +199,13 @@ fn pairs(random: &mut Random, junks: [Junk; 2]) -> (Archive, Archive, bool) {
         // A clock that row 11 lets pass.
         one.cascade()[cascade::CLOCK + cascade::HIGH_HALF] %= 200_000;
     }
+    one
+}
+
+/// Two pairs of tables of random content that every call must treat alike, and whether their plans are strict. They are equal but
+/// for the strict line's cell: any number but 0 is strict, and one as good as another.
+fn pairs(random: &mut Random, junks: [Junk; 2]) -> (Archive, Archive, bool) {
+    let mut one = spoiled(random, junks);
     let mut other = Archive::blank(0, random.chance(70));
     *other.plan() = *one.plan();
     *other.cascade() = *one.cascade();

@@ -12,38 +12,50 @@ use reference::plan::{self, Plan};
 use reference::random::calls::{list, Style};
 use reference::random::{plans, texts, Random};
 
+/// A call's line.
+pub fn line(call: Call) -> String {
+    match call {
+        Call::Step { t } => format!("(step {t})\n"),
+        event => texts::line(event),
+    }
+}
+
+/// The word and the numbers of a line; none where it has others.
+pub fn words(line: &str) -> Option<(&str, Vec<u64>)> {
+    let mut words = line.strip_prefix('(')?.strip_suffix(')')?.split(' ');
+    let word = words.next()?;
+    Some((word, words.map(|number| number.parse().ok()).collect::<Option<_>>()?))
+}
+
+/// The call of a line's word and numbers; none where they are no call's.
+pub fn call_of(word: &str, numbers: &[u64]) -> Option<Call> {
+    match (word, numbers) {
+        ("normal", &[t, k, b]) => Some(Call::Normal { t, k, b }),
+        ("high", &[t, k, b]) => Some(Call::High { t, k, b }),
+        ("off", &[t, k]) => Some(Call::Off { t, k }),
+        ("reserve", &[t, k, n, b]) => Some(Call::Reserve { t, k, n, b }),
+        ("until", &[t]) => Some(Call::Until { t }),
+        ("step", &[t]) => Some(Call::Step { t }),
+        _ => None,
+    }
+}
+
 /// A list as text, to cut it down: the plan's lines, then one line a call.
 fn list_text(plan: &Plan, calls: impl IntoIterator<Item = Call>) -> Vec<u8> {
-    let mut text = plan::draw(plan);
-    for call in calls {
-        match call {
-            Call::Step { t } => text.push_str(&format!("(step {t})\n")),
-            event => text.push_str(&texts::line(event)),
-        }
-    }
-    text.into_bytes()
+    let lines: String = calls.into_iter().map(line).collect();
+    (plan::draw(plan) + &lines).into_bytes()
 }
 
 /// The plan and the calls of such a text; none where it isn't one.
 fn list_of(text: &[u8]) -> Option<(Plan, Vec<Call>)> {
     let taken = plan::read(text).ok()?;
-    let lines = std::str::from_utf8(&text[taken.at..]).ok()?.lines();
-    let calls = lines.map(|line| {
-        let line = line.strip_prefix('(')?.strip_suffix(')')?;
-        let (word, numbers) = line.split_once(' ')?;
-        let numbers: Vec<u64> =
-            numbers.split(' ').map(|number| number.parse().ok()).collect::<Option<_>>()?;
-        Some(match (word, &numbers[..]) {
-            ("normal", &[t, k, b]) => Call::Normal { t, k, b },
-            ("high", &[t, k, b]) => Call::High { t, k, b },
-            ("off", &[t, k]) => Call::Off { t, k },
-            ("reserve", &[t, k, n, b]) => Call::Reserve { t, k, n, b },
-            ("until", &[t]) => Call::Until { t },
-            ("step", &[t]) => Call::Step { t },
-            _ => return None,
-        })
+    let mut lines = std::str::from_utf8(&text[taken.at..]).ok()?.lines();
+    let calls = lines.try_fold(Vec::new(), |mut calls, line| {
+        let (word, numbers) = words(line)?;
+        calls.push(call_of(word, &numbers)?);
+        Some(calls)
     });
-    Some((taken.plan, calls.collect::<Option<_>>()?))
+    Some((taken.plan, calls?))
 }
 
 /// Whether every hub's answers are those of the reference's control; if not, where they differ.

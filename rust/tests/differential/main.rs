@@ -11,6 +11,7 @@
 //! - `lines`: event lines, as the crate reads and writes them.
 //! - `short`: buffers and lists that are too short, or no lists.
 //! - `junk`: tables of any content.
+//! - `offers`: reservations offered, among calls, to tables of any content, and in numbers that are no offers.
 
 #[path = "../archive/mod.rs"]
 mod archive;
@@ -19,6 +20,7 @@ mod common;
 mod junk;
 mod lines;
 mod lists;
+mod offers;
 mod plans;
 mod short;
 mod whole_texts;
