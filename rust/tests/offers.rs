@@ -22,8 +22,7 @@ fn offers(hub: &mut Archive, numbers: &[u64], length: usize, last: bool) -> (u32
     buffer.fill(FILL);
     let before = (*hub.plan(), *hub.cascade());
     let (plan, cascade) = hub.tables();
-    let (at, end) = (lent.as_ptr(), lent.len());
-    let number = unsafe { ffi::lembuya_offers(plan, cascade, at, end, buffer.as_mut_ptr(), length) };
+    let number = archive::offers(plan, cascade, lent, buffer);
     assert!((*plan, *cascade) == before && lent == numbers, "what is lent for reading was changed");
     (number, buffer.to_vec())
 }
@@ -179,6 +178,31 @@ fn the_presses_offers_are_answered_in_their_order() {
     assert_eq!(out, ANSWERS.replace("(offer 1 9 12000 0)", "(offer 1 9 12000 17)"));
 }
 
+/// No offer is no line, from a file that is named too.
+#[test]
+fn no_offer_is_no_answer() {
+    for words in [&[PRESS, "/dev/null"][..], &[PRESS, "-"], &[PRESS], &["--quiet", PRESS, "/dev/null"]] {
+        assert_eq!(lembuya(words, ""), (0, String::new(), String::new()), "{words:?}");
+    }
+}
+
+/// About the ends of a pass, which has up to 64. Those of each row are told in their order, each with its own line.
+#[test]
+fn the_last_and_the_first_of_a_pass_are_answered_alike() {
+    for count in [1, 63, 64, 65, 127, 128, 129, 200] {
+        let kinds = [("1 1 12000", 0), ("15 1 4000", 13), ("1 10 12000", 17)];
+        let asked = |place: usize| kinds[place % kinds.len()];
+        let lines: String = (0..count).map(|place| format!("(offer {})\n", asked(place).0)).collect();
+        let expected: String =
+            (0..count).map(|place| format!("(offer {} {})\n", asked(place).0, asked(place).1)).collect();
+        let (status, out, err) = lembuya(&[PRESS], &lines);
+        assert_eq!((status, out), (0, expected), "{count} offers");
+        let told: Vec<&str> = err.lines().map(|line| line.split(": ").next().unwrap()).collect();
+        let refused = (0..count).filter(|place| asked(*place).1 != 0);
+        assert_eq!(told, refused.map(|place| format!("-:{}", place + 1)).collect::<Vec<_>>());
+    }
+}
+
 /// In three passes, each against the same hub: 1 × 13,011 fits alone as often as it is asked.
 #[test]
 fn any_number_of_offers_is_answered() {
@@ -197,9 +221,13 @@ fn the_texts_refusals_are_said_too() {
     let (status, out, err) = lembuya(&["-", OFFERS], &text);
     assert_eq!((status, out.lines().count(), err.lines().count()), (0, 6, 7));
     assert!(err.starts_with("-:7: refused 15: b outside 512 to "), "{err}");
-    let (status, out, err) = lembuya(&["--quiet", "-", OFFERS], "(frame 1)\n");
-    assert_eq!((status, out.as_str()), (1, ""));
-    assert_eq!(err, "-:1: refused 2: T, O or D out of range: (frame 1)\n");
+    assert_eq!(lembuya(&["--quiet", "-", OFFERS], &text), (0, out, String::new()));
+    // Nobody is left to answer, and that is said also where little is to be said.
+    for words in [&["-", OFFERS][..], &["--quiet", "-", OFFERS], &["-", "/dev/null"]] {
+        let (status, out, err) = lembuya(words, "(frame 1)\n");
+        assert_eq!((status, out.as_str()), (1, ""), "{words:?}");
+        assert_eq!(err, "-:1: refused 2: T, O or D out of range: (frame 1)\n", "{words:?}");
+    }
 }
 
 #[test]
