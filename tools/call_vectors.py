@@ -1,11 +1,11 @@
 #!/usr/bin/env python3
 """Holds the model of tools/model against lists of calls with their answers, in the form that ../shared/vectors/calls/README.md tells.
 
-    python3 tools/call_vectors.py [FILE..]
+    python3 tools/call_vectors.py [FOLDER [FILE..]]           default ../shared/vectors/calls
 
-It takes the files there of requests that have landed (tools/landed), and those that are named besides. The calls are the six of document
-01 and request 9's offers; any other line is a difference, so that no answer is passed over. Each difference is said with its file and line;
-the last line is "N answers agree, M don't". Status 0: M is 0 and N isn't.
+It takes the files of the folder that are of requests that have landed (tools/landed), and those that are named besides. The calls are
+the six of document 01 and request 9's offers; any other line is a difference, so that no answer is passed over. Each difference is said
+with its file and line; the last line is "N answers agree, M don't". Status 0: M is 0 and N isn't. tools/vectors runs it.
 """
 import itertools
 import pathlib
@@ -40,13 +40,13 @@ class Section(NamedTuple):
     vectors: list
 
 
-def files_of(request):
-    return sorted(FOLDER.glob(f'{request:02}-*.calls'))
+def files_of(request, folder=FOLDER):
+    return sorted(pathlib.Path(folder).glob(f'{request:02}-*.calls'))
 
 
-def files(named):
+def files(folder=FOLDER, *named):
     """Those of the requests that have landed and those named, each once."""
-    found = [*itertools.chain.from_iterable(files_of(request) for request in landed()), *map(pathlib.Path, named)]
+    found = [*itertools.chain.from_iterable(files_of(request, folder) for request in landed()), *map(pathlib.Path, named)]
     return list({path.resolve(): path for path in found}.values())
 
 
@@ -146,7 +146,7 @@ def differences(path):
 
 
 def main():
-    found = [each for path in files(sys.argv[1:]) for each in differences(path)]
+    found = [each for path in files(*sys.argv[1:]) for each in differences(path)]
     differing = [(place, what) for place, what in found if what is not None]
     for place, what in differing:
         print(f'{place}: {what}')

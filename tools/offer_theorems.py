@@ -1,75 +1,69 @@
-#!/usr/bin/env python3
-"""Writes request 9's call vectors as theorems about the definitions of crates/rules, which the checker computes: one antt file.
-
-    python3 tools/offer_theorems.py [--most N] [FILE..]       default: all offers of all files 09-*.calls of ../shared/vectors/calls
-
-A theorem for each line of offers: after the calls before it in its plan, the number and the whole buffer left behind are those of the
-vector. The model has no part in it. `--most` takes so many lines of offers of each file at most, since each is computed from the plan on.
-"""
-import argparse
-import itertools
+"""Offers behind a list of calls, with their outcome, written as theorems about request 9's definitions, which the checker computes. They
+are over cells: the plan's text is read into the plan's, and the calls are made on the cascade's."""
 import pathlib
+import re
 
-from call_vectors import files_of, read_call, read_offers, sections, stated_outcome
 from theorems import as_call, as_list
+
+CRATES = pathlib.Path(__file__).resolve().parent.parent / 'crates'
+
+# The files whose definitions are computed: what they mark as `unfoldable` is unfolded.
+COMPUTED = {
+    'text': ['Number', 'Line', 'Word', 'Form'],
+    'plan_tree': ['Kind', 'Tables'],
+    'plan': ['Tables', 'Reading'],
+    'trials': ['Text'],
+    'rules': ['Choice', 'Core'],
+    'ports': ['Mask', 'Ports', 'Search'],
+    'cells': ['Layout', 'Decode', 'Fresh', 'Masks', 'Waits', 'Build', 'Frames', 'Instants', 'Turns', 'Calls', 'Run'],
+    'offers': ['Offers'],
+}
 
 HEAD = '''use Prim.Native.Nat.{ℕ}
 use mathlib.Core.Path.{_≡_, refl}
-use mathlib.Core.List.{List, [], _∷_}
-use Rattle.rules.specs.Call.{normal, high, ask, off, reserve, until, step}
+use mathlib.Core.List.{List, [], _∷_, reverse}
+use Rattle.rules.specs.Call.{Call, normal, high, ask, off, reserve, until, step}
+use Rattle.offers.specs.Offers.{clockOf}
+'''
+
+OFFERED = '''
+-- the answer to these numbers at the clock behind the calls, and the whole buffer that is left
+abbrev offered : List ℕ → List Call → List ℕ → List ℕ → List ℕ
+offered text calls numbers buffer =
+    let P = reading text .tables in
+    let s = madeBy P (reverse calls) .cells in
+    offersRow numbers buffer ∷ offersLeft P (clockOf s) s numbers buffer
 '''
 
 
-def as_plan(i, path, section):
-    text = ''.join(line + r'\n' for line in section.plan)
+def unfolded():
+    """The names of the definitions, by their file's."""
+    for crate, files in COMPUTED.items():
+        for file in files:
+            text = (CRATES / crate / 'specs' / f'{file}.antt').read_text()
+            yield f'{crate}.specs.{file}', re.findall(r'^ *unfoldable pub (\S+)', text, re.MULTILINE)
+
+
+def theorems_file(theorems):
+    """A file of these theorems and plans, with all that they need."""
+    uses = [f'use Rattle.{file}.{{{", ".join(names)}}}\n' for file, names in unfolded()]
+    return ''.join([HEAD, *uses, OFFERED, *theorems])
+
+
+def plan_definition(name, lines):
     return f'''
--- {path.name}, line {section.line}
-plan{i} : List ℕ
-plan{i} = textOf "{text}"
+abbrev {name} : List ℕ
+{name} = textOf {as_list(f'"{line}"' for line in lines)}
 '''
 
 
-def theorem(name, i, calls, offers, vector):
-    """The offers' numbers are a flat list, three an offer."""
-    numbers = as_list(str(number) for offer in offers.offered for number in offer)
-    outcome = as_list(stated_outcome(offers, vector.answer))
+def offers_theorem(plan, name, calls, numbers, buffer, outcome):
+    """The outcome is the answer and the whole buffer left."""
+    opened = '\n    '.join(' '.join(names) for _, names in unfolded())
+    numbers, buffer, outcome = (as_list(map(str, each)) for each in (numbers, buffer, outcome))
     return f'''
--- line {vector.line}
-{name} : offered plan{i} {as_list(map(as_call, calls))} {offers.length} {numbers} ≡ {outcome}
+{name} : offered {plan} {as_list(map(as_call, calls))} {numbers} {buffer} ≡ {outcome}
+unfolding
+    {opened}
 {name} = refl
 '''
-
-
-def theorems_of(i, section):
-    """The theorems of a plan, in the order of its lines of offers, each with the calls of document 01 before it."""
-    calls, found = [], 0
-    for vector in section.vectors:
-        if (made := read_call(vector.call)) is not None:
-            calls.append(made)
-        elif (offers := read_offers(vector.call)) is not None:
-            found += 1
-            yield theorem(f't{i}-{found}', i, calls, offers, vector)
-
-
-def written(paths, most):
-    """The parts of the file; a plan is written only if a theorem of it is."""
-    plans = itertools.count(1)
-    yield HEAD
-    for path in paths:
-        left = most
-        for section, i in zip(sections(path), plans):
-            theorems = list(itertools.islice(theorems_of(i, section), left))
-            left = None if left is None else left - len(theorems)
-            yield from [as_plan(i, path, section), *theorems] if theorems else []
-
-
-def main():
-    parser = argparse.ArgumentParser()
-    parser.add_argument('--most', type=int)
-    parser.add_argument('files', nargs='*', type=pathlib.Path)
-    given = parser.parse_args()
-    print(''.join(written(given.files or files_of(9), given.most)), end='')
-
-
-if __name__ == '__main__':
-    main()

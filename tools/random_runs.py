@@ -49,7 +49,7 @@ def random_hub(rng, level):
     return lines + [')']
 
 
-def random_plan(rng):
+def random_plan_lines(rng):
     """At most 12 nodes and 10 hubs, so that the checker computes its lists in a short time. Framing 3 is meant or written out; half are
     strict."""
     while True:
@@ -60,7 +60,7 @@ def random_plan(rng):
         header += ['(strict)'] if rng.random() < .5 else []
         interrupt = LONGEST_PACKETS[framing] + overhead + rng.choice([0, 1000, 20000])
         if 1 <= tree.count('(node)') <= 12 and tree.count('(hub') <= 10:
-            return plan_of([f'(frame {frame})', f'(overhead {overhead})', f'(interrupt {interrupt})', *header, *tree])
+            return [f'(frame {frame})', f'(overhead {overhead})', f'(interrupt {interrupt})', *header, *tree]
 
 
 # Random calls
@@ -211,7 +211,7 @@ class Tally:
 
 
 def theorems_of_run(rng, i, count, tally):
-    plan = random_plan(rng)
+    plan = plan_of(random_plan_lines(rng))
     entries = random_run(rng, plan, count)
     by_root = run(plan, [entry.call for entry in entries], nearest=False)
     tally.add_list(plan, entries, by_root)
@@ -223,13 +223,39 @@ def theorems_of_run(rng, i, count, tally):
         yield wait_theorem(f'wait{i}-{j}', i, wait)
 
 
-def check(theorems):
-    """Has the checker compute the theorems, beside a copy of crates/rules."""
-    files = {'crates.txt': 'rules:\nruns: rules\n', 'crates/runs/src/lib.rt': '// random runs\n',
+# The checker
+
+
+def crates_below(names):
+    """The crates of these names and all that they stand on, each with its line of crates.txt as it is: rt's stamp of a proof has it too."""
+    lines = [line for line in (ROOT / 'crates.txt').read_text().splitlines() if not line.startswith('#')]
+    lines, found, left = {line.partition(':')[0]: line for line in lines}, {}, [*names]
+    while left:
+        name = left.pop()
+        if name not in found:
+            found[name] = lines[name]
+            left += lines[name].partition(':')[2].split()
+    return found
+
+
+def copy_crate(name, folder):
+    """With what target/ has of its proof, so that it isn't proved again; rt does that where the crate is another since."""
+    shutil.copytree(ROOT / 'crates' / name, folder / 'crates' / name)
+    for part in (f'target/rlib/{name}.rlib', f'target/stamp/{name}'):
+        if (ROOT / part).exists():
+            (folder / part).parent.mkdir(parents=True, exist_ok=True)
+            (shutil.copytree if (ROOT / part).is_dir() else shutil.copy)(ROOT / part, folder / part)
+
+
+def check(theorems, *names):
+    """Has the checker compute the theorems, beside a copy of the crates of these names."""
+    crates = crates_below(names)
+    files = {'crates.txt': '\n'.join([*crates.values(), f'runs: {" ".join(crates)}', '']), 'crates/runs/src/lib.rt': '// random runs\n',
              'crates/runs/proofs/Lib.antt': 'pub mod Runs\n', 'crates/runs/proofs/Runs.antt': theorems}
     with tempfile.TemporaryDirectory() as folder:
         folder = pathlib.Path(folder)
-        shutil.copytree(ROOT / 'crates/rules', folder / 'crates/rules')
+        for name in crates:
+            copy_crate(name, folder)
         for name, text in files.items():
             (folder / name).parent.mkdir(parents=True, exist_ok=True)
             (folder / name).write_text(text)
@@ -241,7 +267,7 @@ def main():
     rng, tally, theorems = random.Random(seed), Tally(), [HEAD]
     for i in range(runs):
         theorems += theorems_of_run(rng, i, count, tally)
-    done = check('\n'.join(theorems))
+    done = check('\n'.join(theorems), 'rules')
     if done.returncode:
         print(done.stdout[-3000:], done.stderr[-3000:])
         sys.exit(f'random_runs: the definitions and the model differ, or the check failed (seed {seed})')

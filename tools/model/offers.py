@@ -43,3 +43,11 @@ def offer_all(hub, offers, buffer):
         return Refused(18)
     buffer[:len(offers)] = bytes(answers(hub, offers))
     return Taken()
+
+
+def offer_numbers(hub, numbers, buffer):
+    """The same with plain numbers, three an offer. Numbers that end within an offer are 1, before any 18: our own decision, since request 9
+    knows whole offers only."""
+    if len(numbers) % 3:
+        return Refused(1)
+    return offer_all(hub, [Offer(*numbers[i:i + 3]) for i in range(0, len(numbers), 3)], buffer)
