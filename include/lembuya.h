@@ -113,10 +113,10 @@ uint32_t lembuya_list(const uint32_t plan[LEMBUYA_PLAN_CELLS], uint32_t cascade[
 /* Many reservations offered in one pass, and nothing reserved: both tables are lent for reading only. `offers` has three numbers an offer
  * (node k, n, b), and `answers` gets a byte an offer, in their order: 0, or the number that lembuya_reserve would give for it at the
  * cascade's clock (13, 14, 15 or 17; in a table of any content that no calls leave, 11 or 12 too). Each offer is answered as if alone
- * against the present table, so that an offer has the same answer wherever it stands: two that fit alone may not fit together, and the
- * node's own reservation makes room. n = 0 with b = 0 is an offer, and a node may be offered twice. 0, and the bytes behind the answers are
- * as they were; or 1 (`offers` ends within an offer), or else 18 (more than LEMBUYA_MOST_OFFERS offers, or `answers` is shorter than a byte
- * an offer), and then nothing is written. No offer is 0, also with an empty buffer. Lengths count numbers and bytes. */
+ * against the present table, so that it has the same answer wherever it stands, and two that fit alone may not fit together. An offer
+ * stands in place of its node's latest reservation. n = 0 with b = 0 is an offer, and a node may be offered twice. 0, and the bytes behind
+ * the answers are as they were; or 1 (`offers` ends within an offer), or else 18 (more than LEMBUYA_MOST_OFFERS offers, or `answers` is
+ * shorter than a byte an offer), and then nothing is written. No offer is 0, also with an empty buffer. Lengths count numbers and bytes. */
 uint32_t lembuya_offers(const uint32_t plan[LEMBUYA_PLAN_CELLS], const uint32_t cascade[LEMBUYA_CASCADE_CELLS], const uint64_t *offers,
                         size_t offers_length, uint8_t *answers, size_t answers_length);
 

@@ -32,7 +32,7 @@ pub fn share_code(n: u16, b: u16) -> u32
 }
 
 // Whether D and all loads, with a new reservation in place of an old one of them, are more than T. A sum that is more than T and the old
-// load by itself is answered first, so that no sum that is handed over wraps.
+// load by itself is answered first, so that nothing wraps, whatever sum is handed over.
 fn more_than(frame: u32, overhead: u32, interrupt: u32, all: u64, old: u32, new: u32) -> bool
     ensures { λ r. ⌜ r ≡ ltb (frame + old / half * (old % half + overhead)) (interrupt + (all + new / half * (new % half + overhead))) ⌝ }
 {

@@ -12,7 +12,7 @@ use Rattle.writer.specs.Write.{overwrite}
 use Rattle.cells.specs.Layout.{timeAt, clock-cell}
 use Rattle.cells.specs.Calls.{numberOf, rowBy}
 
--- n packets of b bits a frame for a node
+-- n packets a frame, of up to b bits each, for a node
 pub record Offer : Type 0 where
   pub node : ℕ
   pub packets : ℕ
