@@ -90,7 +90,7 @@ pub fn share_row_with(p: &Plan, s: &Cascade, all: u64, k: u64, n: u64, b: u64) -
     0
 }
 
-// 13, 14, 15 and 17: what refuses a reservation, whatever the time.
+// 13, 14, 15 and 17: what refuses a reservation, whatever the time. One that 13, 14 or 15 refuses needs no pass over the nodes.
 pub fn share_row(p: &Plan, s: &Cascade, k: u64, n: u64, b: u64) -> u32
     ensures { λ r. ⌜ r ≡ shareRowBy (now (p .entry)) k n b (now (s .entry)) ⌝ }
 {
@@ -98,10 +98,7 @@ pub fn share_row(p: &Plan, s: &Cascade, k: u64, n: u64, b: u64) -> u32
     if row != 0 {
         return row;
     }
-    if overfull(p, s, frames::loads(p, s), k, n, b) {
-        return 17;
-    }
-    0
+    share_row_with(p, s, frames::loads(p, s), k, n, b)
 }
 
 // 11 to 17, of a reserve.

@@ -31,14 +31,16 @@ use Rattle.beside.specs.Extended.{Extended}
 use Rattle.beside.specs.Run.{ran}
 use Rattle.beside.proofs.Run.{extended-by}
 use Rattle.offers.specs.Offers.{offersIn, answersTo, offersRow, offersLeft}
+use Rattle.offers_theory.specs.Order.{no-offer, atPlaces}
 use Rattle.offers_theory.specs.Offering.{offering}
-use Rattle.offers_theory.specs.Worked.{P01, worked, two, Worked}
+use Rattle.offers_theory.specs.Worked.{P01, three, turned, worked, two, Worked}
 use Rattle.offers_theory.proofs.Offering.{in-lists}
 
 -- by computing: the text is read, and each call made, by the definitions that `unfolding` names
 pub record Computed : Type 0 where
   pub taken : TakenAs plan01 4 2 100 13
   pub answered : ran offering P01 worked .items ≡ worked
+  pub places : offersIn turned ≡ atPlaces no-offer (offersIn three) (2 ∷ 1 ∷ 0 ∷ [])
   pub at-end : answersTo P01 103000 (ran offering P01 worked .cells) two ≡ (0 ∷ 13 ∷ [])
   pub above-end : answersTo P01 103001 (ran offering P01 worked .cells) two ≡ (12 ∷ 12 ∷ [])
   pub before-clock : answersTo P01 99999 (ran offering P01 worked .cells) two ≡ (11 ∷ 11 ∷ [])
@@ -53,7 +55,7 @@ unfolding
     downBy takeBy upBy handUpBy foundBy lookBy afterLook walkBy nearerBy nearestBy walked settled chooseBy
     rowsBy rowBy changeBy eventBy busyUntil resting grantBy restBy handledBy stepDue stepBy stepAnswer eventLeft performBy
     ran offersIn answersTo offersRow offersLeft
-computed = record { taken = refl; answered = refl; at-end = refl; above-end = refl; before-clock = refl }
+computed = record { taken = refl; answered = refl; places = refl; at-end = refl; above-end = refl; before-clock = refl }
 
 worked-list : Extended offering P01 worked tt (ran offering P01 worked .cells)
 worked-list = extended-by offering P01 worked (computed .answered)
@@ -63,6 +65,7 @@ as-worked =
     record {
       taken = computed .taken;
       answered = computed .answered;
+      places = computed .places;
       at-end = computed .at-end;
       above-end = computed .above-end;
       before-clock = computed .before-clock;

@@ -11,7 +11,8 @@ use Rattle.trials.specs.Plans.{plan01}
 use Rattle.beside.specs.Beside.{Reply, refusal, told, entry, Item, of-hub, aside}
 use Rattle.beside.specs.Extended.{Extended}
 use Rattle.beside.specs.Run.{ran}
-use Rattle.offers.specs.Offers.{Offer, answersTo}
+use Rattle.offers.specs.Offers.{Offer, offersIn, answersTo}
+use Rattle.offers_theory.specs.Order.{no-offer, atPlaces}
 use Rattle.offers_theory.specs.Offering.{Lent, offering, InLists}
 
 abbrev pub P01 : List ℕ
@@ -21,6 +22,13 @@ P01 = reading plan01 .tables
 abbrev pub offers : List ℕ → List ℕ → Reply (List ℕ) → Item offering
 offers numbers buffer r = aside (record { numbers = numbers; buffer = buffer }) r
 
+-- one bit too long, and twice what fits alone; and the same from the last to the first
+abbrev pub three : List ℕ
+three = 4 ∷ 1 ∷ 2001 ∷ 4 ∷ 1 ∷ 2000 ∷ 4 ∷ 1 ∷ 2000 ∷ []
+
+abbrev pub turned : List ℕ
+turned = 4 ∷ 1 ∷ 2000 ∷ 4 ∷ 1 ∷ 2000 ∷ 4 ∷ 1 ∷ 2001 ∷ []
+
 -- in the order in which the calls are made
 abbrev pub worked : List (Item offering)
 worked =
@@ -29,8 +37,9 @@ worked =
     (of-hub (entry (reserve 0 1 10 2000) taken)
     ∷ of-hub (entry (reserve 0 2 10 2000) taken)
     ∷ of-hub (entry (reserve 0 3 8 2000) taken)
-    -- one bit too long; then what fits alone, twice, and two bytes stay
-    ∷ offers (4 ∷ 1 ∷ 2001 ∷ 4 ∷ 1 ∷ 2000 ∷ 4 ∷ 1 ∷ 2000 ∷ []) (7 ∷ 7 ∷ 7 ∷ 7 ∷ 7 ∷ []) (told (17 ∷ 0 ∷ 0 ∷ 7 ∷ 7 ∷ []))
+    -- the two bytes behind the answers stay
+    ∷ offers three (7 ∷ 7 ∷ 7 ∷ 7 ∷ 7 ∷ []) (told (17 ∷ 0 ∷ 0 ∷ 7 ∷ 7 ∷ []))
+    ∷ offers turned (7 ∷ 7 ∷ 7 ∷ 7 ∷ 7 ∷ []) (told (0 ∷ 0 ∷ 17 ∷ 7 ∷ 7 ∷ []))
     -- a node's own old reservation makes room
     ∷ offers (1 ∷ 11 ∷ 2000 ∷ 1 ∷ 12 ∷ 2000 ∷ []) (7 ∷ 7 ∷ []) (told (0 ∷ 17 ∷ []))
     -- rows in their order, and reservations that are given up
@@ -61,6 +70,8 @@ pub record Worked : Type 0 where
   pub taken : TakenAs plan01 4 2 100 13
   -- made by computing, the calls are answered as they stand there
   pub answered : ran offering P01 worked .items ≡ worked
+  -- the second list of offers has those of the first at places 2, 1 and 0, as `OrderFree` asks
+  pub places : offersIn turned ≡ atPlaces no-offer (offersIn three) (2 ∷ 1 ∷ 0 ∷ [])
   -- behind it the line is busy until 103,000: at a time above that each offer is 12, whatever it offers, and before the clock 11
   pub at-end : answersTo P01 103000 (ran offering P01 worked .cells) two ≡ (0 ∷ 13 ∷ [])
   pub above-end : answersTo P01 103001 (ran offering P01 worked .cells) two ≡ (12 ∷ 12 ∷ [])
