@@ -1,5 +1,7 @@
 // Admission: the rows of a reserve, and the cell of a reservation.
 // No public function has a `requires`: each says its answer for every content of both tables.
+#![tactic(auto)]
+
 ghost use Rattle.std.specs.Prelude.{◌≡◌, not, ◌||◌, ◌+◌, ◌*◌, ◌/◌, ◌%◌, ltb, eqb};
 ghost use Rattle.rules.specs.Choice.{if◌then◌else◌};
 ghost use Rattle.rules.specs.Call.{reserve};

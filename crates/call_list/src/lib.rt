@@ -1,4 +1,6 @@
 // A list of calls as one call: a caller in another language crosses the border once for many.
+#![tactic(auto)]
+
 ghost use Rattle.std.specs.Prelude.{◌≡◌, ◌+◌, ◌*◌, ◌≤◌, true, length, get_or};
 ghost use Rattle.rules.specs.Call.{step};
 ghost use Rattle.event.specs.Call.{call_of};

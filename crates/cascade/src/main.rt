@@ -1,5 +1,7 @@
 // Reads a text on standard input, at most 65,536 bytes, and writes its log to standard output.
 // Where one of them fails it says so on standard error.
+#![tactic(auto)]
+
 use cells::Cascade;
 use input::Input;
 use libc::{STDERR_FILENO, STDIN_FILENO, STDOUT_FILENO};

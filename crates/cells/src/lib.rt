@@ -1,4 +1,5 @@
 // The cascade's table, and what its functions answer. specs/ says what stands where and what each call leaves.
+#![tactic(auto)]
 
 // The table that a caller lends: see specs/Layout.antt for what stands where.
 // The places below are the same numbers, and stand nowhere else.
@@ -103,7 +104,7 @@ pub enum Look {
 }
 
 // A turn: the node that it goes to, the hub that has control then, and the moves of control. Node 0 is none.
-#[derive(Drop)]
+#[derive(Clone, Copy)]
 pub struct Turn {
     pub node: u32,
     pub hub: u32,
@@ -111,7 +112,7 @@ pub struct Turn {
 }
 
 // A step's answer. The class is 1 for normal and 2 for high; the wait is the time less that at which the request was first put up.
-#[derive(Drop)]
+#[derive(Clone, Copy)]
 pub enum Step {
     Grant {
         time: u64,

@@ -1,6 +1,8 @@
 // Control, hub by hub: a look finds the port by trailing zeros of the hub's mask, and the walk passes control until a node is found.
 // No public function has a `requires`: each says its answer and the whole
 // table that it leaves, for every content, by a definition of `cells`.
+#![tactic(auto)]
+
 ghost use Rattle.std.specs.Prelude.{◌≡◌, false, ◌-◌, ◌≤◌, ◌<◌, get_or, set};
 ghost use Rattle.rules.specs.Plan.{most_hubs, most_ports};
 ghost use Rattle.rules.specs.Control.{most_looks};

@@ -1,5 +1,7 @@
 // Event lines: what a line of a lent text says. No public function has a `requires`:
 // it says its whole answer for every input, by a definition of specs/.
+#![tactic(auto)]
+
 ghost use Rattle.std.specs.Prelude.{◌≡◌};
 ghost use Rattle.text.specs.Part.{part};
 ghost use Rattle.event_lines.specs.Event.{event_of};

@@ -1,5 +1,7 @@
 // What would make an offer fit (request 10 of document 02): the smallest single change that would turn a 17 into a grant.
 // Both tables are lent for reading only. No function has a `requires`: each says its answer for every content of them.
+#![tactic(auto)]
+
 ghost use Rattle.std.specs.Prelude.{◌≡◌, not, ◌&&◌, ◌||◌, ◌+◌, ◌-◌, ◌*◌, ◌/◌, ◌%◌, eqb, ltb, leb};
 ghost use Rattle.cells.specs.Layout.{half};
 ghost use Rattle.cells.specs.Decode.{plan_in, core_of};

@@ -1,6 +1,8 @@
 // Frames: the clock, what a frame's start changes, and the sum of all reservations.
 // No public function has a `requires`: each says its answer and the whole
 // table that it leaves, for every content, by a definition of `cells`.
+#![tactic(auto)]
+
 ghost use Rattle.std.specs.Prelude.{◌≡◌, true, ◌+◌, ◌*◌, ◌/◌, ◌%◌, ◌≤◌, ◌<◌, ltb, get_or};
 ghost use Rattle.rules.specs.Choice.{sum};
 ghost use Rattle.rules.specs.Plan.{most_nodes};

@@ -1,4 +1,6 @@
 // The lines in front of a plan's ports, each by itself: a figure that must stand there, a line that may, and the root's `(hub`.
+#![tactic(auto)]
+
 ghost use Rattle.std.specs.Prelude.{◌≡◌, ◌||◌, ◌-◌, eqb};
 ghost use Rattle.rules.specs.Plan.{longest_in};
 ghost use Rattle.header.specs.Lines.{in_range, figure_at, optional_at, root_at};

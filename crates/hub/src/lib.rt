@@ -1,6 +1,8 @@
 // The cascade hub: the five events and the step.
 // No public function has a `requires`: each says its answer and the whole table
 // that it leaves, for every content of both tables, by a definition of `cells`.
+#![tactic(auto)]
+
 ghost use Rattle.std.specs.Prelude.{◌≡◌, ◌≤◌, ◌<◌, set};
 ghost use Rattle.rules.specs.Plan.{most_nodes};
 ghost use Rattle.rules.specs.Call.{ask, off, reserve, until, normal, high};

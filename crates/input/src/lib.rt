@@ -1,5 +1,7 @@
 // An input read to its end, or until a lent buffer is full, where a failure is told apart from an end.
 // What is known of C's `read` is its contract in the kit's crate `libc`: -1, or how many bytes it put at the front of what it was lent.
+#![tactic(auto)]
+
 ghost use Rattle.input.specs.ReadInto.{ReadInto};
 
 // How many bytes stand at the front of the buffer; or: a read failed.

@@ -1,5 +1,7 @@
 // The due instant and the class sought, read off the root's two masks and the number of standing requests.
 // No public function has a `requires`: each says its answer for every content of both tables.
+#![tactic(auto)]
+
 ghost use Rattle.std.specs.Prelude.{◌≡◌, true, false, ◌||◌, ◌+◌, ◌*◌, ◌/◌};
 ghost use Rattle.cells.specs.Decode.{plan_in};
 ghost use Rattle.cells.specs.Instants.{root_shows, sought_by};

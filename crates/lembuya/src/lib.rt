@@ -1,6 +1,8 @@
 // The hub for programs in C and Rust: include/lembuya.h has a comment for each function. No exported function has a `requires`:
 // each says its answer and all that it leaves, for every content of the tables and every length of the texts, lists and buffers.
 // A refusal leaves all that is lent as it was, but for a refused plan's line, which is told.
+#![tactic(auto)]
+
 ghost use Rattle.std.specs.Prelude.{◌≡◌, set};
 ghost use Rattle.rules.specs.Choice.{if◌then◌else◌};
 ghost use Rattle.rules.specs.Plan.{longest};

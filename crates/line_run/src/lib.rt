@@ -1,5 +1,7 @@
 // One line of a text, run over the lent tables: an event behind all steps strictly before it, each with its line of the log.
 // Lines are written into a lent buffer or only measured. No public function has a `requires`.
+#![tactic(auto)]
+
 ghost use Rattle.std.specs.Prelude.{◌≡◌, ◌+◌, ◌*◌, eqb};
 ghost use Rattle.std.proofs.Math.Option.{some};
 ghost use Rattle.rules.specs.Choice.{if◌then◌else◌};

@@ -1,6 +1,8 @@
 // How much of a text is read, and the log's lines: the plan's own, grants,
 // rests and refusals, each written whole into a lent buffer or not at all.
 // No public function has a `requires`: each says its whole answer and the whole of what is lent to it, by a definition of specs/.
+#![tactic(auto)]
+
 ghost use Rattle.std.specs.Prelude.{◌≡◌, length, take};
 ghost use Rattle.writer.specs.Write.{pass_buffer, put_answer, put_number, put_row};
 ghost use Rattle.log_lines.specs.Handed.{handed};

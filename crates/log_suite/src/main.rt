@@ -1,5 +1,7 @@
 // Reads texts on standard input, 1,048,576 bytes at most, with a byte 0 between one and the next, and writes the log of each
 // with a line `--` behind it. Where standard input or output fails it says so on standard error.
+#![tactic(auto)]
+
 ghost use Rattle.std.specs.Prelude.{◌≤◌, length};
 
 use cells::Cascade;

@@ -2,6 +2,8 @@
 // their requests, and a pass over the hubs their summaries.
 // No public function has a `requires`: each says its answer or the whole
 // table that it leaves, for every content, by a definition of `cells`.
+#![tactic(auto)]
+
 ghost use Rattle.std.specs.Prelude.{◌≡◌, true, false, ◌≤◌};
 ghost use Rattle.rules.specs.Plan.{most_nodes, most_hubs};
 ghost use Rattle.cells.specs.Decode.{plan_in};

@@ -1,5 +1,7 @@
 // Many offers in one pass (request 9 of document 02): each is answered as the single reserve would be, and nothing is reserved.
 // No function has a `requires`: each says its answer and the whole buffer that it leaves, for every content of both tables.
+#![tactic(auto)]
+
 ghost use Rattle.std.specs.Prelude.{◌≡◌, eqb};
 ghost use Rattle.rules.specs.Choice.{if◌then◌else◌};
 ghost use Rattle.admission.specs.Share.{share_row_with};

@@ -1,5 +1,7 @@
 // The plan: its header's lines, and with its tree the whole of it, read from a text into tables of 32-bit cells.
 // Each line of the header has a function, which reads the line and hands on to the next line's; the last hands on to `plan_tree`.
+#![tactic(auto)]
+
 ghost use Rattle.std.specs.Prelude.{◌≡◌, ◌≤◌, length};
 ghost use Rattle.plan.specs.Tables.{put_figures};
 ghost use Rattle.plan.specs.Reading.{framing_row, reading, leaves};
@@ -11,7 +13,7 @@ use text::Cursor;
 
 // A plan is taken, with its numbers of nodes and hubs and where the events
 // start (byte and line number), or refused at a line with a number.
-#[derive(Drop)]
+#[derive(Clone, Copy)]
 pub enum Answer {
     Taken {
         nodes: u32,

@@ -1,4 +1,6 @@
 // The tree of a plan: its hubs and nodes, read line by line into tables of 32-bit cells.
+#![tactic(auto)]
+
 ghost use Rattle.std.specs.Prelude.{◌≡◌, length};
 ghost use Rattle.text.specs.Part.{part};
 ghost use Rattle.plan_tree.specs.Kind.{kind_of};

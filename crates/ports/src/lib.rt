@@ -1,4 +1,6 @@
 // A hub's ports as a mask of 32 bits: bit p - 1 says whether port p is shown. The contracts speak of ports alone.
+#![tactic(auto)]
+
 ghost use Rattle.std.specs.Prelude.{◌≡◌};
 ghost use Rattle.ports.specs.Ports.{with_port, put_port, any_port};
 ghost use Rattle.ports.specs.Mask.{shows, mask_of};

@@ -2,6 +2,8 @@
 // line's number, and hands out one line at a time as the part of the text itself.
 // The scanner is `text`'s; the functions over `Reader` are thin and proved
 // by hand, and `line_at` serves whoever has a plain text and two numbers.
+#![tactic(auto)]
+
 ghost use Rattle.std.specs.Prelude.{◌≡◌, ◌+◌, ◌<◌, ◌^◌};
 ghost use Rattle.text.specs.Line.{next_line};
 ghost use Rattle.reader.specs.LineReader.{found_at, PartOf, ahead, moved_on, answer_of};

@@ -1,1 +1,2 @@
 // Theory alone: the cells of the cascade and the hub of `rules` are tied, call by call.
+#![tactic(auto)]

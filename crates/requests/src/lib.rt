@@ -1,5 +1,7 @@
 // Requests in the cascade's table, its times, and the masks that a change at a node mends from its hub up.
 // No public function has a `requires`: each says the whole table that it leaves, for every content, by a definition of `cells`.
+#![tactic(auto)]
+
 ghost use Rattle.std.specs.Prelude.{◌≡◌, true, false, ◌+◌, ◌*◌, ◌≤◌};
 ghost use Rattle.rules.specs.Plan.{most_nodes, most_hubs};
 ghost use Rattle.cells.specs.Layout.{two_32, time_at, put_time, clock_cell, end_cell};

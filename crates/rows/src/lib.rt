@@ -1,5 +1,7 @@
 // "Where each no is said", of all calls but a reserve: 0, or the number of the first row that applies.
 // No public function has a `requires`: each says its answer for every content of both tables.
+#![tactic(auto)]
+
 ghost use Rattle.std.specs.Prelude.{◌≡◌, ◌||◌, ltb, get_or};
 ghost use Rattle.rules.specs.Choice.{if◌then◌else◌};
 ghost use Rattle.rules.specs.Drawn.{Within};

@@ -1,6 +1,8 @@
 // Lines, decimal numbers and form words of a lent text.
 // A text is a slice of bytes and places in it are numbers from 0. No public function has a `requires`: each says its whole answer
 // for every input, by a definition of specs/.
+#![tactic(auto)]
+
 ghost use Rattle.std.specs.Prelude.{◌≡◌, false, cond, ℕ, ◌+◌, ◌-◌, ◌^◌, ◌≤◌, ◌<◌, min, eqb, length, get_or};
 ghost use Rattle.text.specs.Part.{part};
 ghost use Rattle.text.specs.Line.{next_line, next_number};
@@ -9,7 +11,7 @@ ghost use Rattle.text.specs.Word.{starts_with, is_word};
 ghost use Rattle.text.specs.Form.{read_numbers, form_of, form_at};
 
 // A place in a text, and the number of the line that starts there.
-#[derive(Drop)]
+#[derive(Clone, Copy)]
 pub struct Cursor {
     pub at: usize,
     pub number: usize,

@@ -1,5 +1,7 @@
 // The run over one text: the plan is read, then each event behind all steps strictly before it, and the log is written into a lent buffer,
 // all of it or nothing. No public function has a `requires`: what is written is one definition of a log, `log_spec`'s specs/Log.antt.
+#![tactic(auto)]
+
 ghost use Rattle.std.specs.Prelude.{◌≡◌, true, suc, ◌≤◌, length};
 ghost use Rattle.plan.specs.Reading.{reading, leaves};
 ghost use Rattle.log_lines.specs.Handed.{handed};

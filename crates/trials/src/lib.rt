@@ -1,1 +1,2 @@
 // The trial cases of document 01 that are proved: see specs/ and proofs/.
+#![tactic(auto)]

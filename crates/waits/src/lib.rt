@@ -1,6 +1,8 @@
 // The times at which the nodes' standing requests were first put up (request 1 of document 02), in the last two tables of the cells.
 // No public function has a `requires`: each says its answer or the whole
 // table that it leaves, for every content, by a definition of `cells`.
+#![tactic(auto)]
+
 ghost use Rattle.std.specs.Prelude.{◌≡◌, ◌+◌, ◌-◌, ◌*◌, ◌%◌, ◌≤◌, ltb, leb};
 ghost use Rattle.rules.specs.Choice.{if◌then◌else◌};
 ghost use Rattle.rules.specs.Plan.{most_nodes};

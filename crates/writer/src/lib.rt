@@ -1,5 +1,7 @@
 // Numbers, words and whole lines written into a lent buffer at a place: all of the bytes, or none. No public function
 // has a `requires`: each says its whole answer and the whole buffer, for every input, by a definition of specs/.
+#![tactic(auto)]
+
 ghost use Rattle.std.specs.Prelude.{◌≡◌, true, [], ◌+◌, ◌-◌, ◌*◌, ◌≤◌, ◌<◌, leb, length};
 ghost use Rattle.text.specs.Number.{digits};
 ghost use Rattle.writer.specs.Write.{overwrite, answered, pass_buffer, put_answer, put_buffer, put_number, put_row, draw_line};
