@@ -29,7 +29,7 @@ module _ (P : List ℕ) (high : Bool) (looks g moves : ℕ) (s : List ℕ) where
   walk_over e = rw e
 
   module _ (some : looks ≡ 0 → ⊥) where
-    -- walkBy at the number of looks that has one more
+    -- walk_by at the number of looks that has one more
     one_more : looks ≡ suc (looks - 1)
     one_more = omega arith
 

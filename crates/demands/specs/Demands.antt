@@ -2,7 +2,7 @@
 -- hub/src/lib.rt, requests/src/lib.rt) are these, for every text and every content of both tables:
 --
 --   read(text, plan)         answers reading text .answer, and leaves `leaves (reading text) plan`
---   fresh(s)                 leaves freshCells
+--   fresh(s)                 leaves fresh_cells
 --   normal(p, s, t, k, b)    EventPromise P (ask normal t k b) s r z
 --   high(p, s, t, k, b)      EventPromise P (ask high t k b) s r z
 --   off(p, s, t, k)          EventPromise P (off t k) s r z

@@ -11,7 +11,7 @@ pub ran_same : {x y : Run} {r : Put} {s b : List ℕ} → x ≡ y → Ran y r s 
 ran_same {x} {y} {r} {s} {b} e w = rw e w
 
 module _ (more : List ℕ → List ℕ → ℕ → Run) (x : Run) {put : Put} {s b : List ℕ} (came : Ran x put s b) where
-  -- goingOn by the answer alone
+  -- going_on by the answer alone
   by-put : {p : Put} → put ≡ p → going_on more x ≡ going_on more (record { put = p; cells = s; buffer = b })
   by-put {p} e =
       let q : x.put ≡ p = sym came.0 ∙ e in

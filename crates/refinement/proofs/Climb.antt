@@ -55,7 +55,7 @@ if_goes : {A : Type 0} (C : A → Type 0) (t : Bool) {a b : A} → (t ≡ true �
 if_goes C true x y = x refl
 if_goes C false x y = y
 
--- the masks of class isHigh were right for what counted, `was`, and are to be for what counts now; only node k has changed
+-- the masks of class is_high were right for what counted, `was`, and are to be for what counts now; only node k has changed
 module _ (P : List ℕ) (R : Ready P) (is_high : Bool) (k : ℕ) (was now : ℕ → Bool) (same : (j : ℕ) → (j ≡ k → ⊥) → now j ≡ was j) where
   abbrev p : Plan
   p = plan_in P

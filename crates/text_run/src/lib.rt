@@ -16,7 +16,7 @@ use plan::Answer;
 use plan_tree::Plan;
 use writer::Put;
 
-// How many bytes hold the log of every text: 18 times 65,536, `log-bound` in `log_spec`.
+// How many bytes hold the log of every text: 18 times 65,536, `log_bound` in `log_spec`.
 pub const LONGEST_LOG: usize = 1179648;
 
 // How a run goes on behind a line: what became of what it wrote, the place for the next line's, and whether a line may follow.
