@@ -1,0 +1,12 @@
+-- `choose` meets its contract: the walk from where it starts, and what it leaves settled.
+use mathlib.Core.Path.{sym, ap, ◌∙◌}
+use Rattle.cells.specs.Turns.{Turned}
+use Rattle.control.proofs.Walks.{chosen}
+use Rattle.control.proofs.choose.Goals as goal
+
+pub returns : goal.returns
+returns c =
+    let a = c.args in
+    let e = c.start-from.ensures.s_value in
+    chosen a.p.now a.high a.s.now (c.walk-t.ensures.value ∙ sym (ap (λ (d : Turned). d.turn) e))
+    (c.walk-t.ensures.s_after ∙ sym (ap (λ (d : Turned). d.cells) e)) c.settle.ensures

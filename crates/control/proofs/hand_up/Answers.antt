@@ -1,0 +1,20 @@
+-- `hand_up` meets its contract: the root goes round, and another hub goes up.
+use mathlib.Core.Path.{sym, ap, ◌∙◌}
+use native.Mathlib.Omega.{arith}
+use Rattle.cells.specs.Turns.{Looked}
+use Rattle.control.proofs.Looks.{looked, root_round, handed-up}
+use Rattle.control.proofs.hand_up.Goals as goal
+
+pub returns-then-g-eq1 : goal.returns-then-g-eq1
+returns-then-g-eq1 c =
+    let a = c.args in
+    let e = looked (root_round a.p.now a.high a.g a.s.now (omega arith)) in
+    (e.0, c.point.ensures ∙ e.1)
+
+pub returns : goal.returns
+returns c =
+    let a = c.args in
+    let e = handed-up a.p.now a.high a.g a.s.now c.if-g-eq1.false in (
+      c.go_up.ensures.value ∙ sym (ap (λ (w : Looked). w.look) e),
+      c.go_up.ensures.s_after ∙ sym (ap (λ (w : Looked). w.cells) e),
+    )

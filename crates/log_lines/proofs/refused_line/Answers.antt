@@ -1,0 +1,12 @@
+-- `log_lines::refused_line` meets its contract: the form that is written is the line. Assumes nothing.
+use mathlib.Core.Path.{refl}
+use Rattle.log_lines.specs.FirstLine.{refused_line}
+use Rattle.log_lines.proofs.PutSame.{put_same_3}
+use Rattle.log_lines.proofs.refused_line.Goals as goal
+
+pub returns : goal.returns
+unfolding refused_line
+returns c =
+    let a = c.args in
+    let p = c.put_form in
+    put_same_3 a.write a.buffer.now a.at p.result p.new.1.0 p.ensures refl

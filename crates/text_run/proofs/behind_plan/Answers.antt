@@ -1,0 +1,13 @@
+-- `text_run::behind_plan` meets its contract: a taken plan's events from a fresh table, and nothing behind a refused one. Assumes nothing.
+use Rattle.text_run.proofs.WholeLaws.{plan_refused, plan_taken}
+use Rattle.text_run.proofs.behind_plan.Goals as goal
+
+pub returns-in-Taken : goal.returns-in-Taken
+returns-in-Taken c =
+    let a = c.args in
+    plan_taken a.write a.text.now a.answer a.p.now a.s.now a.buffer.now a.at c.in-Taken.nodes c.in-Taken.hubs c.in-Taken.place c.in-Taken.line c.in-Taken.is c.fresh.ensures c.events.ensures
+
+pub returns-in-Refused : goal.returns-in-Refused
+returns-in-Refused c =
+    let a = c.args in
+    plan_refused a.write a.text.now a.answer a.p.now a.s.now a.buffer.now a.at c.in-Refused.line c.in-Refused.number c.in-Refused.is
