@@ -20,11 +20,13 @@ pub returns-in-Taken : goal.returns-in-Taken
 returns-in-Taken c =
     let a = c.args in
     let p = c.nodes_line in
-    put_same_3 a.write a.buffer.now a.at p.result p.new.1.1.1.0 p.ensures (taken a.answer c.in-Taken.nodes c.in-Taken.hubs c.in-Taken.at c.in-Taken.line c.in-Taken.is)
+    let same = put_same_3 a.write a.buffer.now a.at p.result p.new.buffer p.ensures (taken a.answer c.in-Taken.nodes c.in-Taken.hubs c.in-Taken.at c.in-Taken.line c.in-Taken.is) in
+    record { value = same.0; buffer_after = same.1.0; result_value = same.1.1 }
 
 pub returns-in-Refused : goal.returns-in-Refused
 returns-in-Refused c =
     let a = c.args in
     let p = c.refused_line in
     let q = p.ensures in
-    put_same_3 a.write a.buffer.now a.at p.result p.new.1.1.1.0 (q.0, q.1.0, q.1.1) (refused a.answer c.in-Refused.line c.in-Refused.number c.in-Refused.is)
+    let same = put_same_3 a.write a.buffer.now a.at p.result p.new.buffer (q.value, q.buffer_after, q.result_value) (refused a.answer c.in-Refused.line c.in-Refused.number c.in-Refused.is) in
+    record { value = same.0; buffer_after = same.1.0; result_value = same.1.1 }

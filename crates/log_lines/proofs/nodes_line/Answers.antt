@@ -9,18 +9,19 @@ use Rattle.log_lines.specs.FirstLine.{nodes_line}
 use Rattle.log_lines.proofs.PutSame.{put_same}
 use Rattle.log_lines.proofs.nodes_line.Goals as goal
 
--- BY HAND
 -- the front has as many bytes as `nodes_head` says
-counted : (c : tie.After-nodes-head) → c.nodes-head.result ≡ length (take c.nodes-head.result c.nodes-head.new.1.0)
-counted c = c.nodes-head.ensures.0 ∙ ap length (sym c.nodes-head.ensures.1)
+counted : (n : ℕ) (head bytes : List ℕ) → n ≡ length bytes → take n head ≡ bytes → n ≡ length (take n head)
+counted n head bytes e h = e ∙ ap length (sym h)
 
 pub slice_bounds-head-end : goal.slice_bounds-head-end
 slice_bounds-head-end c =
     let h = c.nodes_head-end in
-    omega (arith, counted c, length-take h.result h.new.1.0)
+    omega (arith, counted h.result h.new.head _ h.ensures.0 h.ensures.1, length-take h.result h.new.head)
 
 pub slice_bounds-put_form-end : goal.slice_bounds-put_form-end
-slice_bounds-put_form-end c = counted c
+slice_bounds-put_form-end c =
+    let h = c.nodes_head-end in
+    counted h.result h.new.head _ h.ensures.0 h.ensures.1
 
 pub returns : goal.returns
 unfolding nodes_line
@@ -28,4 +29,4 @@ returns c =
     let a = c.args in
     let h = c.nodes_head-end in
     let p = c.put_form in
-    put_same a.write a.buffer.now a.at p.result p.new.1.0 p.ensures (ap (λ (w : List ℕ). draw_line w (a.hubs ∷ [])) h.ensures.1)
+    put_same a.write a.buffer.now a.at p.result p.new.buffer p.ensures (ap (λ (w : List ℕ). draw_line w (a.hubs ∷ [])) h.ensures.1)

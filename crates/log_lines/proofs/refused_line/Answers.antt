@@ -9,4 +9,5 @@ unfolding refused_line
 returns c =
     let a = c.args in
     let p = c.put_form in
-    put_same_3 a.write a.buffer.now a.at p.result p.new.1.0 p.ensures refl
+    let same = put_same_3 a.write a.buffer.now a.at p.result p.new.buffer p.ensures refl in
+    record { value = same.0; buffer_after = same.1.0; result_value = same.1.1 }

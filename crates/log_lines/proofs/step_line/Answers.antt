@@ -33,22 +33,26 @@ returns-in-Grant c =
     let p = c.put_form in
     let line =
     granted a.step c.in-Grant.time c.in-Grant.node c.in-Grant.class c.in-Grant.end c.in-Grant.moves c.in-Grant.wait c.in-Grant.is in
-    put_same_3 a.write a.buffer.now a.at p.result p.new.1.0 p.ensures line
+    let same = put_same_3 a.write a.buffer.now a.at p.result p.new.buffer p.ensures line in
+    record { value = same.0; buffer_after = same.1.0; result_value = same.1.1 }
 
 pub returns-in-Rest : goal.returns-in-Rest
 returns-in-Rest c =
     let a = c.args in
     let p = c.put_form-in-Rest in
-    put_same_3 a.write a.buffer.now a.at p.result p.new.1.0 p.ensures (rested a.step c.in-Rest.time c.in-Rest.moves c.in-Rest.is)
+    let same = put_same_3 a.write a.buffer.now a.at p.result p.new.buffer p.ensures (rested a.step c.in-Rest.time c.in-Rest.moves c.in-Rest.is) in
+    record { value = same.0; buffer_after = same.1.0; result_value = same.1.1 }
 
 pub returns-in-Quiet : goal.returns-in-Quiet
 returns-in-Quiet c =
     let a = c.args in
     let p = c.put_word in
-    none-same a.write a.buffer.now a.at p.result p.new.0 p.ensures (quiet a.step c.in-Quiet.is)
+    let same = none-same a.write a.buffer.now a.at p.result p.new.buffer p.ensures (quiet a.step c.in-Quiet.is) in
+    record { value = same.0; buffer_after = same.1.0; result_value = same.1.1 }
 
 pub returns-in-Refused : goal.returns-in-Refused
 returns-in-Refused c =
     let a = c.args in
     let p = c.put_word-in-Refused in
-    none-same a.write a.buffer.now a.at p.result p.new.0 p.ensures (refused a.step c.in-Refused.field-0 c.in-Refused.is)
+    let same = none-same a.write a.buffer.now a.at p.result p.new.buffer p.ensures (refused a.step c.in-Refused.field-0 c.in-Refused.is) in
+    record { value = same.0; buffer_after = same.1.0; result_value = same.1.1 }
