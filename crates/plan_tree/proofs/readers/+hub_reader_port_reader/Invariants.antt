@@ -1,4 +1,4 @@
-use Prim.Native.Nat.{◌+◌, ◌-◌}
+use Prim.Native.Nat.{◌+◌}
 use Rattle.plan_tree.proofs.readers.+hub_reader_port_reader.Given as goal
 
 abbrev pub decreases-hub_reader : goal.decreases-hub_reader
