@@ -138,6 +138,7 @@ module _ (p : Plan) (drawn : Drawn p) (t : ℕ) where
     by_course : {o : Outcome Control} → Course p (control p) here (step t) o → perform p (control p) (step t) here ≡ o
         → Quiet (behind p n t (record { hub = here; times = times }) o).left.hub
     by_course (refusal c m a) q = let r : accept ≡ refuse m = rw ((passed11 here.core t).1 i) at a in clash (cc)
+    by_course (course.event u v a) q = elim v [ ]
     by_course (quietly u j a) q = ap (λ (o : Outcome Control). o.answer) q
     by_course (course.granting u d c j a l b) q =
         let s = advance p d here.core in

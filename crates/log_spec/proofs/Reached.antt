@@ -88,6 +88,7 @@ module _ (p : Plan) where
             → Stepped t calls (behind p n t w o)
         unfolding answer_line
         by_course (refusal x m a) q = nothing_more calls
+        by_course (course.event u v a) q = elim v [ ]
         by_course (quietly u j a) q = nothing_more calls
         by_course (course.granting u d c i e l b) q =
             let more = onward _ q in

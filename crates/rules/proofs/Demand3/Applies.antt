@@ -3,7 +3,6 @@
 use mathlib.Core.Path.{◌≡◌, refl, sym, subst}
 use mathlib.Core.List.{List, [], ◌∷◌, ◌++◌}
 use native.Mathlib.Omega.{arith}
-use lib.ListN.{length}
 use Rattle.rules.specs.Choice.{any, sum, first}
 use Rattle.rules.specs.Drawn.{Figures}
 use Rattle.rules.specs.Call.{high, Call, ask, reserve, until, step, taken, grant, rest}

@@ -1,17 +1,16 @@
 -- One move of the clock crosses at most one frame's start while a request stands: no call takes the clock beyond the due instant,
 -- and one is due by the next frame's start, or at the end of a packet, which is shorter than a frame.
 use Prim.Native.Nat.{ℕ, ◌+◌, ◌*◌, ◌≤◌}
-use mathlib.Core.Path.{◌≡◌, refl, sym, ap, ◌∙◌}
-use mathlib.Core.Bool.{Bool, true, false, not, ◌&&◌, ◌||◌}
+use mathlib.Core.Path.{◌≡◌, refl, ◌∙◌}
+use mathlib.Core.Bool.{Bool, true, false}
 use native.Mathlib.Omega.{arith}
 use borrow.Author.Tests.{ltb-false, le-ltb}
-use lib.Dec.{ltb}
 use Rattle.rules.specs.Plan.{Plan}
 use Rattle.rules.specs.Drawn.{Figures}
 use Rattle.rules.specs.Call.{Class, normal, high, Call, time}
 use Rattle.rules.specs.Core.{Core, standing, frame_of, advance, share_left, counts_in, counts, held, Due, at, due, before}
 use Rattle.rules.specs.Machine.{Machine, Hub, Outcome}
-use Rattle.rules.proofs.Laws.Passes.{Which, which, yes', no', true-false, any_none}
+use Rattle.rules.proofs.Laws.Passes.{true-false, any_none}
 use Rattle.rules.proofs.Laws.Frames.{not_ended, ends_later, next_start}
 use Rattle.rules.proofs.Flat.Follows.{Follows}
 use Rattle.rules.proofs.Core.Instants.{Instant, line_ends, one_counts, one_held, no_instant, instant}

@@ -12,7 +12,7 @@ use Rattle.rules.specs.Machine.{Machine, Hub, Outcome, perform}
 use Rattle.rules.specs.Control.{control}
 use Rattle.rules.specs.Run.{Entry, Made, made}
 use Rattle.rules.specs.Words.{clock_at, High}
-use Rattle.rules.specs.WaitWords.{Stand, absent, stands, up_at, stand_at}
+use Rattle.rules.specs.WaitWords.{absent, stands, up_at, stand_at}
 use Rattle.rules.specs.Waits.{come_to, watch, wait_of, Timed, watched, entries_of, stand_of, WaitTold, Waits}
 use Rattle.rules.proofs.Flat.Follows.{Follows}
 use Rattle.rules.proofs.Flat.Turns.{node_counts}

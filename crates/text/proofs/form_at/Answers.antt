@@ -3,7 +3,6 @@ use mathlib.Core.Path.{◌≡◌, sym, ◌∙◌}
 use mathlib.Core.Bool.{true, false}
 use mathlib.Core.List.{List}
 use Prim.Native.Nat.{ℕ, ◌+◌}
-use borrow.Author.Tests.{not-true, not-false}
 use native.Mathlib.Omega.{arith}
 use lib.ListN.{length}
 use Rattle.text.specs.Part.{part}
@@ -27,15 +26,15 @@ module _ (text word : List ℕ) (start end count : ℕ) where
 pub returns-then-not-word_at : goal.returns-then-not-word_at
 returns-then-not-word_at c =
     let a = c.args in
-    sym (other_word a.text.now a.word.now a.start a.end a.count (sym c.word_at.ensures ∙ not-true _ c.if-not-word_at.true-raw))
+    sym (other_word a.text.now a.word.now a.start a.end a.count (sym c.word_at.ensures ∙ c.if-not-word_at.true))
 
 pub overflow_add-start : goal.overflow_add-start
 overflow_add-start c =
     let a = c.args in
-    omega (arith, starts_room a.text.now a.word.now a.start a.end (sym c.word_at.ensures ∙ not-false _ c.if-not-word_at.false-raw))
+    omega (arith, starts_room a.text.now a.word.now a.start a.end (sym c.word_at.ensures ∙ c.if-not-word_at.false))
 
 pub returns : goal.returns
 returns c =
     let a = c.args in
     c.numbers_from.ensures
-    ∙ sym (this_word a.text.now a.word.now a.start a.end a.count (sym c.word_at.ensures ∙ not-false _ c.if-not-word_at.false-raw))
+    ∙ sym (this_word a.text.now a.word.now a.start a.end a.count (sym c.word_at.ensures ∙ c.if-not-word_at.false))

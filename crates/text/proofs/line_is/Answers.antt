@@ -3,7 +3,7 @@ use mathlib.Core.Path.{◌≡◌, sym, ◌∙◌}
 use mathlib.Core.Bool.{true, false}
 use mathlib.Core.List.{List}
 use Prim.Native.Nat.{ℕ, ◌+◌, ◌-◌, ◌≤◌, ◌<◌, min}
-use borrow.Author.Tests.{not-true, not-false, le-leb, lt-leb}
+use borrow.Author.Tests.{le-leb, lt-leb}
 use native.Mathlib.Omega.{arith}
 use lib.ListN.{length}
 use Rattle.text.specs.Part.{part}
@@ -24,24 +24,24 @@ module _ (text word : List ℕ) (start end : ℕ) (begins : starts_with word (pa
   some_behind h = is_starts word (part text start end) ∙ rw (begins, part_length text start end) (lt-leb (min end (length text) - start) (length word) (omega arith))
 
 pub returns-then-not-word_at : goal.returns-then-not-word_at
-returns-then-not-word_at c = sym (does_not _ _ (sym c.word_at.ensures ∙ not-true _ c.if-not-word_at.true-raw))
+returns-then-not-word_at c = sym (does_not _ _ (sym c.word_at.ensures ∙ c.if-not-word_at.true))
 
 pub overflow_add-behind : goal.overflow_add-behind
 overflow_add-behind c =
     let a = c.args in
-    omega (arith, starts_room a.text.now a.word.now a.start a.end (sym c.word_at.ensures ∙ not-false _ c.if-not-word_at.false-raw))
+    omega (arith, starts_room a.text.now a.word.now a.start a.end (sym c.word_at.ensures ∙ c.if-not-word_at.false))
 
 pub returns-then-end-behind : goal.returns-then-end-behind
 returns-then-end-behind c =
     let a = c.args in
-    sym (none-behind a.text.now a.word.now a.start a.end (sym c.word_at.ensures ∙ not-false _ c.if-not-word_at.false-raw) (omega arith))
+    sym (none-behind a.text.now a.word.now a.start a.end (sym c.word_at.ensures ∙ c.if-not-word_at.false) (omega arith))
 
 pub returns-then-text-behind : goal.returns-then-text-behind
 returns-then-text-behind c =
     let a = c.args in
-    sym (none-behind a.text.now a.word.now a.start a.end (sym c.word_at.ensures ∙ not-false _ c.if-not-word_at.false-raw) (omega arith))
+    sym (none-behind a.text.now a.word.now a.start a.end (sym c.word_at.ensures ∙ c.if-not-word_at.false) (omega arith))
 
 pub returns : goal.returns
 returns c =
     let a = c.args in
-    sym (some_behind a.text.now a.word.now a.start a.end (sym c.word_at.ensures ∙ not-false _ c.if-not-word_at.false-raw) (omega arith))
+    sym (some_behind a.text.now a.word.now a.start a.end (sym c.word_at.ensures ∙ c.if-not-word_at.false) (omega arith))

@@ -2,27 +2,20 @@
 -- that began there and has come to i, of which the rest stands at i. The measure is what is left of the text.
 -- Assumes nothing.
 use mathlib.Core.Path.{◌≡◌, refl, sym, ap, ◌∙◌}
-use mathlib.Core.Bool.{false, cond}
+use mathlib.Core.Bool.{false}
 use mathlib.Core.List.{List}
 use Prim.Native.Nat.{ℕ, zero, suc, ◌+◌, ◌-◌, ◌≤◌, ◌<◌}
 use native.Mathlib.Nat.{add-zero}
 use native.Mathlib.Numerals.{add-one}
 use native.Mathlib.Omega.{arith}
 use borrow.Author.Tests.{lt-ltb, le-ltb, eq-eqb, ne_eqb}
-use lib.Dec.{ltb, eqb}
+use lib.Dec.{eqb}
 use lib.ListN.{length, drop, get_or, drop_of_length-le}
 use lib.Seq.{drop-cons}
 use Rattle.text.specs.Line.{Lines, nothing, unended, ended, before, lines, next_number, hand_out, next_line}
-use Rattle.text.specs.declared.Next.{Next}
-use Rattle.text.specs.declared.Next.TheVariants.{Line, Unended, Done}
+use Rattle.text.specs.declared.Next.TheVariants.{Line, Unended}
+use Rattle.text.proofs.next_line.Invariants.{go_on}
 use Rattle.text.proofs.next_line.Goals as goal
-
--- the answer for a line that began at `at`, has no LF before i, and goes on at i with these lines
-go_on : (at number i : ℕ) → Lines → Next
-go_on at number i nothing = cond (ltb at i) (Unended at i number) (Done number)
-go_on at number i (unended l) = Unended at (i + length l) number
-go_on at number i (ended l rest) =
-    Line at (i + length l) number (record { at = i + length l + 1; number = next_number number })
 
 begin : (at number : ℕ) (ls : Lines) → hand_out (record { at = at; number = number }) ls ≡ go_on at number at ls
 unfolding hand_out go_on

@@ -59,9 +59,6 @@ loop-i-preserved c =
       c.placed-d.ensures ∙ one_more_at vs i v c.loop-i.d 3 c.loop-i.invariant.1 c.loop-i.invariant.7,
     )
 
-pub UNKNOWN-slice-aggregate-line-is : goal.UNKNOWN-slice-aggregate-line-is
-UNKNOWN-slice-aggregate-line-is c = refl
-
 pub returns-then-line_is : goal.returns-then-line_is
 returns-then-line_is c =
     let a = c.args in

@@ -10,13 +10,13 @@ use Rattle.text.proofs.numbers_from.Given as goal
 abbrev pub invariant-loop-i : goal.invariant-loop-i
 invariant-loop-i l =
     (vs : List ℕ)
-    × (length vs ≡ i)
-    × (i ≤ l.count)
-    × (read_numbers l.count (part l.text l.at l.end) ≡ in_front vs (read_numbers (l.count - i) (part l.text l.i l.end)))
-    × (l.b ≡ get_or vs 0 0)
-    × (l.c ≡ get_or vs 1 0)
-    × (l.d ≡ get_or vs 2 0)
-    × (l.p ≡ get_or vs 3 0)
+    × (length vs ≡ l.i)
+    × (l.i ≤ l.count)
+    × (read_numbers l.count (part l.text l.at l.end) ≡ in_front vs (read_numbers (l.count - l.i) (part l.text l.p l.end)))
+    × (l.a ≡ get_or vs 0 0)
+    × (l.b ≡ get_or vs 1 0)
+    × (l.c ≡ get_or vs 2 0)
+    × (l.d ≡ get_or vs 3 0)
 
 abbrev pub decreases-loop-i : goal.decreases-loop-i
-decreases-loop-i l = l.count - i
+decreases-loop-i l = l.count - l.i

@@ -18,12 +18,10 @@ one_length n h = ap length (digits_small n h)
 more-length : (n : ℕ) → 10 ≤ n → length (digits n) ≡ length (digits (n / 10)) + 1
 more-length n h = ap length (digits_more n h) ∙ length-append (digits (n / 10)) ((48 + n % 10) ∷ [])
 
--- BY HAND
 -- what is written and what is still to come have room
-fits : (c : goal.At-loop-v → c.loop.p + length c.loop.invariant.0 ≤ length c.before.before.before.args.buffer.now
-fits c =
-    let l = ap length c.loop.invariant.1 ∙ length-append (digits c.loop.v) c.loop.invariant.0 in
-    omega (arith, c.before.before.before.requires)
+fits : (value v at p room : ℕ) (s : List ℕ) → digits value ≡ digits v ++ s → p ≡ at + length (digits v) → at + length (digits value) ≤ room
+    → p + length s ≤ room
+fits value v at p room s e here h = omega (arith, ap length e ∙ length-append (digits v) s)
 
 pub overflow_add-behind : goal.overflow_add-behind
 overflow_add-behind c = omega (arith, c.requires)
@@ -38,7 +36,7 @@ overflow_sub-p c = omega (arith, more-length c.loop-v.v (omega arith), c.loop-v.
 
 pub bounds-buffer-p : goal.bounds-buffer-p
 bounds-buffer-p c =
-    omega (arith, fits c, more-length c.loop-v.v (omega arith), c.loop-v.invariant.2, c.loop-v.invariant.4)
+    omega (arith, fits c.args.value c.loop-v.v c.args.at c.loop-v.p (length c.args.buffer.now) c.loop-v.invariant.0 c.loop-v.invariant.1 c.loop-v.invariant.2 c.requires, more-length c.loop-v.v (omega arith), c.loop-v.invariant.2, c.loop-v.invariant.4)
 
 pub loop-v-preserved : goal.loop-v-preserved
 loop-v-preserved c =
@@ -52,13 +50,13 @@ loop-v-preserved c =
       c.loop-v.invariant.1 ∙ rw more (append_snoc (digits (v / 10)) d c.loop-v.invariant.0),
       omega (arith, c.loop-v.invariant.2),
       ap (λ (b : List ℕ). set b (c.loop-v.p - 1) d) (c.loop-v.invariant.3 ∙ ap (λ (q : ℕ). overwrite a.buffer.now q c.loop-v.invariant.0) p)
-          ∙ overwrite-cons a.buffer.now (c.loop-v.p - 1) d c.loop-v.invariant.0 (omega (arith, fits c)),
+          ∙ overwrite-cons a.buffer.now (c.loop-v.p - 1) d c.loop-v.invariant.0 (omega (arith, fits c.args.value c.loop-v.v c.args.at c.loop-v.p (length c.args.buffer.now) c.loop-v.invariant.0 c.loop-v.invariant.1 c.loop-v.invariant.2 c.requires)),
       length-set c.loop-v.buffer (c.loop-v.p - 1) d ∙ c.loop-v.invariant.4,
     )
 
 pub bounds-buffer-at : goal.bounds-buffer-at
 bounds-buffer-at c =
-    omega (arith, fits c, one_length c.loop-v.v (omega arith), c.loop-v.invariant.2, c.loop-v.invariant.4)
+    omega (arith, fits c.args.value c.loop-v.v c.args.at c.loop-v.p (length c.args.buffer.now) c.loop-v.invariant.0 c.loop-v.invariant.1 c.loop-v.invariant.2 c.requires, one_length c.loop-v.v (omega arith), c.loop-v.invariant.2, c.loop-v.invariant.4)
 
 pub shape_of-buffer : goal.shape_of-buffer
 shape_of-buffer c = simp length-set c.loop-v.invariant.4
@@ -71,6 +69,6 @@ returns c =
     let p : c.loop-v.p ≡ a.at + 1 = omega (arith, one_length c.loop-v.v (omega arith), c.loop-v.invariant.2) in (
       omega (arith, c.number_length.ensures),
       ap (λ (b : List ℕ). set b a.at c.digit-2.result) (c.loop-v.invariant.3 ∙ ap (λ (q : ℕ). overwrite a.buffer.now q c.loop-v.invariant.0) p)
-          ∙ overwrite-cons a.buffer.now a.at c.digit-2.result c.loop-v.invariant.0 (omega (arith, fits c))
+          ∙ overwrite-cons a.buffer.now a.at c.digit-2.result c.loop-v.invariant.0 (omega (arith, fits c.args.value c.loop-v.v c.args.at c.loop-v.p (length c.args.buffer.now) c.loop-v.invariant.0 c.loop-v.invariant.1 c.loop-v.invariant.2 c.requires))
           ∙ ap (overwrite a.buffer.now a.at) (sym all),
     )
