@@ -1,10 +1,10 @@
 -- `better` meets its contract: each return by the tests that led there.
-use Prim.Native.Nat.{◌+◌, ◌-◌, ◌/◌, ◌<◌}
+use Prim.Native.Nat.{◌+◌, ◌/◌, ◌<◌}
 use mathlib.Core.Path.{◌≡◌}
 use mathlib.Core.Bool.{true, false}
 use native.Mathlib.Omega.{arith}
 use lib.Dec.{eqb, leb}
-use borrow.Author.Tests.{eq-eqb, ne_eqb, le-leb, lt-leb, ltb-false}
+use borrow.Author.Tests.{eq-eqb, ne_eqb, le-leb, lt-leb}
 use Rattle.cells.specs.Layout.{half}
 use Rattle.fit.proofs.better.Goals as goal
 use Rattle.fit.proofs.better.Goals.{else-load-needed-via-then-load-needed+else-room-needed, else-load-needed-via-else-load-needed}
