@@ -7,11 +7,13 @@ pub returns-then-row-eq0 : goal.returns-then-row-eq0
 returns-then-row-eq0 c =
     let a = c.args in
     let m = c.event-row.ensures in
-    call_taken a.write a.p.now a.number (call_of a.e) a.s.now a.buffer.now a.at m c.if-row-eq0.true
+    let ran = call_taken a.write a.p.now a.number (call_of a.e) a.s.now a.buffer.now a.at m c.if-row-eq0.true in
+    record { value = ran.0; s_after = ran.1.0; buffer_after = ran.1.1 }
 
 pub returns : goal.returns
 returns c =
     let a = c.args in
     let m = c.event-row.ensures in
     let l = c.refused_line.ensures in
-    call_refused a.write a.p.now a.number (call_of a.e) a.s.now a.buffer.now a.at m c.if-row-eq0.false l.0 l.1.0
+    let ran = call_refused a.write a.p.now a.number (call_of a.e) a.s.now a.buffer.now a.at m c.if-row-eq0.false l.value l.buffer_after in
+    record { value = ran.0; s_after = ran.1.0; buffer_after = ran.1.1 }
