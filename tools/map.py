@@ -5,8 +5,9 @@
     python3 tools/map.py --check    fails if they are stale, or if a link of README.md, docs/ or docs/landings/ leads nowhere
 
 The words of the pages stand in tools/map.template.md and tools/demands.template.md. There {{FILE NAME}} becomes a link to where NAME is declared
-in FILE, {{FILE}} one to the file, {{stands FILE..}} links to the files of proofs/ that the `use` lines of FILE.. name, {{folders CRATE}} the
-folders of a crate's proofs, {{crates}} the table of crates, and {{specs}} that of the lines of their specs/.
+in FILE, {{FILE}} one to the file, {{stands FILE..}} links to the files of proofs/ that the `use` lines of FILE.. name, {{proof FOLDER}} links to
+the files of a function's proof, {{folders CRATE}} the folders of a crate's proofs, {{crates}} the table of crates, and {{specs}} that of the
+lines of their specs/.
 """
 import html
 import pathlib
@@ -78,7 +79,7 @@ def says(crate):
 
 
 def kind(crate):
-    code = re.sub(r'//.*', '', root_file(crate).read_text()).strip()
+    code = re.sub(r'//.*|#!\[.*\]', '', root_file(crate).read_text()).strip()
     if root_file(crate).name == 'main.rt':
         return 'program'
     return 'code' if code else 'theory'
@@ -114,6 +115,12 @@ def stands_on(files):
             if (ROOT / at).exists() and at not in files:
                 links.append(link(at, words))
     return ', '.join(dict.fromkeys(links)) or 'definitions alone'
+
+
+def proof(folder):
+    """Links to what is written of a function's proof; the checker finds the rest."""
+    files = [f'{folder}/{name}.antt' for name in ('Proof', 'Invariants', 'Answers')]
+    return ', '.join(link(file, f'`{file}`') for file in files if (ROOT / file).exists()) or "the checker's own"
 
 
 def table():
@@ -163,6 +170,8 @@ def filled(template):
             return folders(words[1])
         if words[0] == 'stands':
             return stands_on(words[1:])
+        if words[0] == 'proof':
+            return proof(words[1])
         if len(words) == 1:
             return link(words[0], f'`{words[0]}`')
         return link(words[0], f'`{words[1]}`', declared(*words))
