@@ -1,5 +1,5 @@
 /* Document 01's hall, call by call: prints its log.
- * gcc -Wall -Wextra -O2 -Iinclude examples/hall.c target/staticlib/liblembuya.a -o hall */
+ * gcc -Wall -Wextra -O2 -Iinclude examples/hall.c crates/lembuya/out/liblembuya.a -o hall */
 #include <inttypes.h>
 #include <stdio.h>
 

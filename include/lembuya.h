@@ -4,7 +4,7 @@
  * the tables and every length of the texts, lists and buffers. What a caller owes: each pointer names as many elements as said below, and
  * what one call writes to no other argument of it overlaps.
  *
- * Link with liblembuya.a ('rt staticlib lembuya' writes it to target/staticlib/).
+ * Link with liblembuya.a ('tools/proving lembuya' writes it to crates/lembuya/out/).
  * Times are in bit times (10 ns at 100 Mbit/s), lengths in bits.
  */
 #ifndef LEMBUYA_H

@@ -16,7 +16,8 @@ EARLIER = {'A', 'B', 'C', 'D', 'E', 'F', 'request-2', 'request-4', 'request-5', 
 def sources():
     for folder in ('crates', 'rust', 'tools', 'examples', 'include'):
         for file in sorted((ROOT / folder).rglob('*')):
-            if file.suffix in ('.antt', '.rt', '.edit', '.rs', '.py', '.h', '.c') and 'target' not in file.relative_to(ROOT).parts:
+            made = {'target', 'out'} & {*file.relative_to(ROOT).parts}
+            if file.suffix in ('.antt', '.rt', '.edit', '.rs', '.py', '.h', '.c') and not made:
                 yield file
     yield from (ROOT / name for name in ('test', 'example', 'lembuya'))
 

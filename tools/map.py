@@ -23,7 +23,7 @@ WORKED = re.compile(r'rules/specs/(\w*Slips|\w*Runs|Sample|Rejected)\.antt|refin
 
 def crate_names():
     lines = (ROOT / 'crates.txt').read_text().splitlines()
-    return [line.split(':')[0] for line in lines if line and not line.startswith('#')]
+    return [line.split(':')[0].split()[0] for line in lines if line and not line.startswith('#')]
 
 
 CRATES = crate_names()
@@ -38,12 +38,12 @@ def root_file(crate):
 def used_by(crate):
     """The crates that a crate's files name in `use` lines, or by a path in code."""
     names = set()
-    for file in (ROOT / 'crates' / crate).rglob('*'):
+    for file in (file for part in ('src', 'specs', 'proofs') for file in (ROOT / 'crates' / crate / part).rglob('*')):
         if file.suffix == '.antt':
-            names |= set(re.findall(r'^(?:pub )?use Rattle·([a-z_]+)', file.read_text(), re.M))
+            names |= set(re.findall(r'^(?:pub )?use Rattle\.([a-z_]+)', file.read_text(), re.M))
         elif file.suffix == '.rt':
             code = re.sub(r'//.*', '', file.read_text())
-            names |= set(re.findall(r'\bRattle·([a-z_]+)', code)) | set(re.findall(r'\b([a-z_]+)::', code))
+            names |= set(re.findall(r'\bRattle\.([a-z_]+)', code)) | set(re.findall(r'\b([a-z_]+)::', code))
     return {name for name in names if name in CRATES and name != crate}
 
 
@@ -94,7 +94,7 @@ def link(file, words, line=None):
 def declared(file, name):
     """The line of a file that declares a name; there must be just one, so that no link leads to another thing of that name."""
     before = r'(?:abbrev +|unfoldable +)*(?:pub +|record +)(?:abbrev +)?(?:extern "C" +)?(?:record +|data +|fn +)?'
-    pattern = re.compile(r'^ *' + before + re.escape(name) + r'(?=[ (]|:)')
+    pattern = re.compile(r'^ *' + before + re.escape(name) + r'(?=[ (<]|:)')
     lines = (ROOT / file).read_text().splitlines()
     found = [number for number, line in enumerate(lines, 1) if pattern.match(line)]
     if len(found) != 1:
@@ -107,7 +107,7 @@ def stands_on(files):
     links = []
     for file in files:
         own = file.split('/')[1]
-        uses = re.findall(r'^use Rattle·([a-z_]+)(?:·proofs\.proofs|\.proofs)\.([A-Za-z0-9.]+?)(?:\.\{| as |$)', (ROOT / file).read_text(), re.M)
+        uses = re.findall(r'^use Rattle\.([a-z_]+)\.proofs\.([A-Za-z0-9.]+?)(?:\.\{| as |$)', (ROOT / file).read_text(), re.M)
         for crate, module in uses:
             at = f'crates/{crate}/proofs/{module.replace(".", "/")}.antt'
             words = module if crate == own else f'{crate} {module}'

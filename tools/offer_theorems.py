@@ -23,10 +23,8 @@ COMPUTED = {
     'offers': ['Offers'],
 }
 
-HEAD = '''use Prim.Native.Nat.{ℕ}
-use mathlib.Core.Path.{_≡_, refl}
-use mathlib.Core.List.{List, [], _∷_, reverse}
-use Rattle·rules.specs.Call.{Call, normal, high, ask, off, reserve, until, step}
+HEAD = '''use Rattle.std.proofs.Common.{ℕ, ◌≡◌, refl, List, [], ◌∷◌, reverse}
+use Rattle.rules.specs.Call.{Call, normal, high, ask, off, reserve, until, step}
 '''
 
 # Questions
@@ -47,7 +45,7 @@ class Question:
 
     def file(self, theorems):
         """These theorems and plans, with all that they need."""
-        uses = [f'use Rattle·{file}.{{{", ".join(names)}}}\n' for file, names in self.unfolded.items()]
+        uses = [f'use Rattle.{file}.{{{", ".join(names)}}}\n' for file, names in self.unfolded.items()]
         return ''.join([HEAD, *uses, self.definition, *theorems])
 
     def theorem(self, plan, name, calls, asked, answer):
@@ -61,33 +59,33 @@ unfolding
 '''
 
 
-OFFERED = Question('offered', '''use Rattle·offers.specs.Offers.{clockOf}
+OFFERED = Question('offered', '''use Rattle.offers.specs.Offers.{clock_of}
 
 -- the answer to these numbers at the clock behind the calls, and the whole buffer that is left
 abbrev offered : List ℕ → List Call → List ℕ → List ℕ → List ℕ
 offered text calls numbers buffer =
-    let P = reading text .tables in
-    let s = madeBy P (reverse calls) .cells in
-    offersRow numbers buffer ∷ offersLeft P (clockOf s) s numbers buffer
+    let P = (reading text).tables in
+    let s = (made_by P (reverse calls)).cells in
+    offers_row numbers buffer ∷ offers_left P (clock_of s) s numbers buffer
 ''', COMPUTED)
 
-FITTED = Question('fitted', '''use Rattle·offers.specs.Offers.{Offer, clockOf}
-use Rattle·fit.specs.declared.Fit.{Fit}
-use Rattle·fit.specs.declared.Fit.the-variants.{Answer, Packets, Bits, Release, Nothing}
+FITTED = Question('fitted', '''use Rattle.offers.specs.Offers.{Offer, clock_of}
+use Rattle.fit.specs.declared.Fit.{Fit}
+use Rattle.fit.specs.declared.Fit.TheVariants.{Answer, Packets, Bits, Release, Nothing}
 
 -- what would make n packets of b bits of node k fit, at the clock behind the calls
 abbrev fitted : List ℕ → List Call → ℕ → ℕ → ℕ → Fit
 fitted text calls k n b =
-    let P = reading text .tables in
-    let s = madeBy P (reverse calls) .cells in
-    fitFor P (clockOf s) s (record { node = k; packets = n; bits = b })
+    let P = (reading text).tables in
+    let s = (made_by P (reverse calls)).cells in
+    fit_for P (clock_of s) s (record { node = k; packets = n; bits = b })
 ''', {**COMPUTED, 'fit': ['Fit']})
 
 
 def plan_definition(name, lines):
     return f'''
 abbrev {name} : List ℕ
-{name} = textOf {as_list(f'"{line}"' for line in lines)}
+{name} = text_of {as_list(f'"{line}"' for line in lines)}
 '''
 
 

@@ -1,5 +1,5 @@
 #!/usr/bin/env python3
-"""Holds request 10's definition `fitFor` of crates/fit against its call vectors, and against the model of tools/model on random cases.
+"""Holds request 10's definition `fit_for` of crates/fit against its call vectors, and against the model of tools/model on random cases.
 
     python3 tools/random_fits.py [SEED [COUNT]]               default 1 200
 
@@ -8,8 +8,8 @@ is the vector's, and the model has no part in it. Each random case is a theorem 
 framing, with figures at the ends of their ranges too. Of the at most 12 calls most are reserves that fill the frame up to a chosen room,
 equal n × c among them; the others are calls as of tools/random_runs.py, so that frames begin, packets run, and reservations are given up or
 wait for their frame. The offer is aimed at where one packet or one bit decides between two answers, or its numbers stand at the limits of
-rows 13, 14 and 15 or are huge. The checker computes all of it. It works in a temporary folder, with what target/ has of the crates' proofs
-(else they are proved there at first); it is no part of the gate.
+rows 13, 14 and 15 or are huge. The checker computes all of it. It works in a temporary folder, over the libraries that `rt check` built
+of the crates (else they are proved there at first); it is no part of the gate.
 
 At the end it says how many of each kind of answer agreed, and which edges the random ones have; or which differ. `cases(seed, count)` gives
 the random ones, `random0` being the first.

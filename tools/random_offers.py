@@ -7,8 +7,8 @@ Every line of offers of ../shared/vectors/calls/09-*.calls is a theorem about th
 leave: the number and the whole buffer left behind are the vector's, and the model has no part in it. Each run is a random plan and a random
 list of calls, as of tools/random_runs.py, with offers in a random buffer at every few calls; there the right side is the model's. Their
 numbers stand at the limits of rows 13, 14 and 15, at the room that the reservations leave (row 17), or are huge; lists have up to 64
-offers, or too many, and some end within an offer. The checker computes all of it. It works in a temporary folder, with what target/ has of
-the crates' proofs (else they are proved there at first); it is no part of the gate.
+offers, or too many, and some end within an offer. The checker computes all of it. It works in a temporary folder, over the libraries that
+`rt check` built of the crates (else they are proved there at first); it is no part of the gate.
 
 The last line counts the offers and their answers; 1 and 18 are the answers to whole lists, whose offers have none.
 """

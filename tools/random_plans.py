@@ -151,7 +151,7 @@ def waited(log):
 def main():
     seed, batches = ([int(x) for x in sys.argv[1:]] + [1, 20][len(sys.argv) - 1:])[:2]
     if not PROGRAM.exists():
-        sys.exit(f"random_plans: 'rt check {PROGRAM.name}' builds the program first")
+        sys.exit(f"random_plans: 'tools/proving {PROGRAM.name}' builds the program first")
     rng, kinds, waits = random.Random(seed), collections.Counter(), 0
     for _ in range(batches):
         texts = random_batch(rng)

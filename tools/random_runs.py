@@ -5,9 +5,9 @@
 
 Each run is a random plan of either framing, strict or not, and a random list of calls, refused ones among them and high requests of nodes
 that have reserved nothing. Its answers by the model are written as a theorem about the definitions (`answers p (control p) calls` is this
-list), which the checker computes; and so are those by the rule 2 that document 01 had before (`fromRoot`), and the returns of the root's
-pointer in each call (`callReturns`), and the wait of each grant, once as the definitions record it (`watched`) and once by request 1's
-words (`standAt`). Request 13's bound is held against the model's own moves and returns, and so are the model's waits and every node's
+list), which the checker computes; and so are those by the rule 2 that document 01 had before (`from_root`), and the returns of the root's
+pointer in each call (`call_returns`), and the wait of each grant, once as the definitions record it (`watched`) and once by request 1's
+words (`stand_at`). Request 13's bound is held against the model's own moves and returns, and so are the model's waits and every node's
 recorded time behind each call against its own reading of request 1's words, which know calls and answers alone. For some high requests of
 each list, up to two taken as normal among them, request 5's premises, the grant and the limit are looked up in the list by the model, and
 by the definitions there (`figures` of `AnyMomentRuns`); where all premises hold, the grant is held against the limit. It works in a
@@ -228,8 +228,8 @@ def theorems_of_run(rng, i, count, tally):
 
 def crates_below(names):
     """The crates of these names and all that they stand on, each with its line of crates.txt as it is: rt's stamp of a proof has it too."""
-    lines = [line for line in (ROOT / 'crates.txt').read_text().splitlines() if not line.startswith('#')]
-    lines, found, left = {line.partition(':')[0]: line for line in lines}, {}, [*names]
+    lines = [line for line in (ROOT / 'crates.txt').read_text().splitlines() if line and not line.startswith('#')]
+    lines, found, left = {line.partition(':')[0].split()[0]: line for line in lines}, {}, [*names]
     while left:
         name = left.pop()
         if name not in found:
@@ -239,19 +239,18 @@ def crates_below(names):
 
 
 def copy_crate(name, folder):
-    """With what target/ has of its proof, so that it isn't proved again; rt does that where the crate is another since."""
-    shutil.copytree(ROOT / 'crates' / name, folder / 'crates' / name)
-    for part in (f'target/rlib/{name}.rlib', f'target/stamp/{name}'):
-        if (ROOT / part).exists():
-            (folder / part).parent.mkdir(parents=True, exist_ok=True)
-            (shutil.copytree if (ROOT / part).is_dir() else shutil.copy)(ROOT / part, folder / part)
+    """With the library that `rt check` built of it, so that it isn't proved again; rt does that where the crate is another since."""
+    shutil.copytree(ROOT / 'crates' / name, folder / 'crates' / name, ignore=shutil.ignore_patterns('out'))
+    if (ROOT / 'crates' / name / 'out/rlib').exists():
+        shutil.copytree(ROOT / 'crates' / name / 'out/rlib', folder / 'crates' / name / 'out/rlib')
 
 
 def check(theorems, *names):
     """Has the checker compute the theorems, beside a copy of the crates of these names."""
     crates = crates_below(names)
-    files = {'crates.txt': '\n'.join([*crates.values(), f'runs: {" ".join(crates)}', '']), 'crates/runs/src/lib.rt': '// random runs\n',
-             'crates/runs/proofs/Lib.antt': 'pub mod Runs\n', 'crates/runs/proofs/Runs.antt': theorems}
+    files = {'crates.txt': '\n'.join([*crates.values(), f'runs: {" ".join(crates)}', '']),
+             'crates/runs/src/lib.rt': '// random runs\n#![tactic(auto)]\n', 'crates/runs/proofs/Lib.antt': 'pub mod Runs\n',
+             'crates/runs/proofs/Runs.antt': theorems}
     with tempfile.TemporaryDirectory() as folder:
         folder = pathlib.Path(folder)
         for name in crates:
@@ -259,7 +258,7 @@ def check(theorems, *names):
         for name, text in files.items():
             (folder / name).parent.mkdir(parents=True, exist_ok=True)
             (folder / name).write_text(text)
-        return subprocess.run(['rt', 'check', 'runs'], cwd=folder, capture_output=True, text=True)
+        return subprocess.run(['rt', 'check'], cwd=folder / 'crates/runs', capture_output=True, text=True)
 
 
 def main():

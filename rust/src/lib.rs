@@ -5,7 +5,7 @@
 //! known delay, whatever the others do. Times are in bit times (10 ns at 100 Mbit/s), lengths in
 //! bits, and nodes, hubs and lines are numbered from 1.
 //!
-//! The work is done by `liblembuya.a`, which `rt staticlib lembuya` makes from proved code: each
+//! The work is done by `liblembuya.a`, which `rt lib` makes from proved code: each
 //! function meets its contract, never faults and always ends. This crate gives it Rust's types and
 //! adds no rule of its own. "Document 01" is the paper that the proofs follow, "document 02" the one with
 //! requests for changes to it.

@@ -3,4 +3,4 @@ import pathlib
 
 ROOT = pathlib.Path(__file__).resolve().parent.parent.parent
 FOLDER = ROOT / 'crates/log_suite'  # the program's crate; its files stdin and stdout are the texts and their logs
-PROGRAM = ROOT / 'target/bin' / FOLDER.name
+PROGRAM = FOLDER / 'out' / FOLDER.name

@@ -4,30 +4,32 @@
 
 use cells::Cascade;
 use input::Input;
-use libc::{STDERR_FILENO, STDIN_FILENO, STDOUT_FILENO};
 use plan_tree::Plan;
 
 // The log of a text to standard output, through what is lent.
-fn write_log(text: &[u8], plan: &mut Plan, s: &mut Cascade, out: &mut [u8; text_run::LONGEST_LOG]) {
+fn write_log(
+    rt: &(impl Print + Eprint),
+    text: &[u8],
+    plan: &mut Plan,
+    s: &mut Cascade,
+    out: &mut [u8; text_run::LONGEST_LOG],
+) {
     let end = text_run::whole_log(text, plan, s, out);
     let log: &[u8] = out;
-    if !io::write_all(STDOUT_FILENO, &log[..end]) {
-        io::write_all(
-            STDERR_FILENO,
-            b"cascade: standard output can't be written\n",
-        );
+    if rt.write_all(&log[..end]).is_err() {
+        let _ = rt.eprintln("cascade: standard output can't be written");
     }
 }
 
-fn main() {
-    let mut text = io::large_buffer();
+fn main(rt: HostRuntime) {
+    let mut text = [0u8; 65536];
     let mut plan = [0u32; plan_tree::CELLS];
     let mut cascade = [0u32; cells::CELLS];
     let mut out = [0u8; text_run::LONGEST_LOG];
-    match input::read_all(STDIN_FILENO, &mut text) {
-        Input::Read(n) => write_log(&text[..n], &mut plan, &mut cascade, &mut out),
+    match input::read_all(&mut rt.stdin(), &mut text) {
+        Input::Read(n) => write_log(&rt, &text[..n], &mut plan, &mut cascade, &mut out),
         Input::Failed => {
-            io::write_all(STDERR_FILENO, b"cascade: standard input can't be read\n");
+            let _ = rt.eprintln("cascade: standard input can't be read");
         }
     }
 }

@@ -1,8 +1,10 @@
 // An input read to its end, or until a lent buffer is full, where a failure is told apart from an end.
-// What is known of C's `read` is its contract in the kit's crate `libc`: -1, or how many bytes it put at the front of what it was lent.
+// What is known of a reader is the contract of std's `Read::read`: an error, or how many bytes it put at the front of what it was lent.
 #![tactic(auto)]
 
 ghost use Rattle.input.specs.ReadInto.{ReadInto};
+
+use std::io::Read;
 
 // How many bytes stand at the front of the buffer; or: a read failed.
 #[derive(Drop)]
@@ -12,16 +14,14 @@ pub enum Input {
 }
 
 // Reads until the buffer is full, the input ends or a read fails. Each read but the last puts a byte into the buffer, so the loop ends.
-pub fn read_all(fd: i32, buffer: &mut [u8]) -> Input
+pub fn read_all<R: Read>(reader: &mut R, buffer: &mut [u8]) -> Input
     ensures { ReadInto result buffer.new }
 {
     let mut at = 0;
     while at < buffer.len() {
-        let answer = libc::read(fd, &mut buffer[at..]);
-        if answer < 0 {
+        let Ok(more) = reader.read(&mut buffer[at..]) else {
             return Input::Failed;
-        }
-        let more = io::count(answer, &buffer[at..]);
+        };
         if more == 0 {
             return Input::Read(at);
         }

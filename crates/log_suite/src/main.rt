@@ -6,8 +6,8 @@ ghost use Rattle.std.specs.Prelude.{◌≤◌, length};
 
 use cells::Cascade;
 use input::Input;
-use libc::{STDERR_FILENO, STDIN_FILENO, STDOUT_FILENO};
 use plan_tree::Plan;
+use std::io::Read;
 
 // Where the text that starts at a place ends: the next byte 0, or the end of all texts.
 fn text_end(texts: &[u8], at: usize) -> usize
@@ -26,6 +26,7 @@ fn text_end(texts: &[u8], at: usize) -> usize
 
 // The log of one text and the line behind it, through what is lent; whether both are written.
 fn write_log(
+    rt: &impl Print,
     text: &[u8],
     plan: &mut Plan,
     s: &mut Cascade,
@@ -33,11 +34,12 @@ fn write_log(
 ) -> bool {
     let end = text_run::whole_log(text, plan, s, out);
     let log: &[u8] = out;
-    io::write_all(STDOUT_FILENO, &log[..end]) && io::write_all(STDOUT_FILENO, b"--\n")
+    rt.write_all(&log[..end]).is_ok() && rt.write_all(b"--\n").is_ok()
 }
 
 // The logs of all texts, as far as they can be written; whether all are. The texts are finite, so what is left of them falls.
 fn write_logs(
+    rt: &impl Print,
     texts: &[u8],
     plan: &mut Plan,
     s: &mut Cascade,
@@ -46,7 +48,7 @@ fn write_logs(
     let mut at = 0;
     while at <= texts.len() {
         let end = text_end(texts, at);
-        if !write_log(&texts[at..end], plan, s, out) {
+        if !write_log(rt, &texts[at..end], plan, s, out) {
             return false;
         }
         at = end + 1;
@@ -56,40 +58,48 @@ fn write_logs(
 
 // What is read is a part of the array.
 fn read_texts(
+    rt: &(impl Print + Eprint),
+    reader: &mut impl Read,
     texts: &mut [u8],
     plan: &mut Plan,
     s: &mut Cascade,
     out: &mut [u8; text_run::LONGEST_LOG],
 ) {
-    match input::read_all(STDIN_FILENO, texts) {
+    match input::read_all(reader, texts) {
         Input::Read(n) => {
-            if !write_logs(&texts[..n], plan, s, out) {
-                io::write_all(
-                    STDERR_FILENO,
-                    b"log_suite: standard output can't be written\n",
-                );
+            if !write_logs(rt, &texts[..n], plan, s, out) {
+                let _ = rt.eprintln("log_suite: standard output can't be written");
             }
         }
         Input::Failed => {
-            io::write_all(STDERR_FILENO, b"log_suite: standard input can't be read\n");
+            let _ = rt.eprintln("log_suite: standard input can't be read");
         }
     }
 }
 
 // The array's length is its type's here, so that no proof counts the zeros in `main`.
 fn run_all(
+    rt: &(impl Print + Eprint),
+    reader: &mut impl Read,
     texts: &mut [u8; 1048576],
     plan: &mut Plan,
     s: &mut Cascade,
     out: &mut [u8; text_run::LONGEST_LOG],
 ) {
-    read_texts(texts, plan, s, out);
+    read_texts(rt, reader, texts, plan, s, out);
 }
 
-fn main() {
+fn main(rt: HostRuntime) {
     let mut texts = [0u8; 1048576];
     let mut plan = [0u32; plan_tree::CELLS];
     let mut cascade = [0u32; cells::CELLS];
     let mut out = [0u8; text_run::LONGEST_LOG];
-    run_all(&mut texts, &mut plan, &mut cascade, &mut out);
+    run_all(
+        &rt,
+        &mut rt.stdin(),
+        &mut texts,
+        &mut plan,
+        &mut cascade,
+        &mut out,
+    );
 }

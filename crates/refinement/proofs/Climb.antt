@@ -230,7 +230,7 @@ module _ (P : List ℕ) (R : Ready P) (is_high : Bool) (k : ℕ) (was now : ℕ 
     own_port = plan.port_of_node P k
 
     abbrev held : Holds p (node k) own_hub own_port
-    held = R.node_port_lem k w
+    held = R.node_port k w
 
     own_at : At p D k own_hub own_port
     own_at =

@@ -82,7 +82,7 @@ pub record Askable (p : Plan) (s : Core) (c : Class) (t k b : ℕ) : Type 0 wher
 
 -- the length of a reserve is in range: with n = 0 instead it is 0
 pub data InRange (p : Plan) : ℕ → ℕ → Type 0 where
-  given_up_lem : InRange p 0 0
+  given_up : InRange p 0 0
   packets : (n b : ℕ) → 1 ≤ n → shortest p ≤ b → b ≤ longest p → InRange p n b
 
 -- a reserve of a node of the plan, with n and b in range, that the frame can hold

@@ -45,10 +45,10 @@ loop-i-preserved c =
     let inside : c.loop-i.i < n = omega (arith, c.loop-i-test.true) in (
       c.loop-i.invariant.0,
       omega (arith, inside),
-      c.put_seven.auto.0 ∙ c.loop-i.invariant.2,
+      c.put_seven.auto.answers ∙ c.loop-i.invariant.2,
       (kinds_on a.calls.now n c.loop-i.i inside c.loop-i.invariant.3).1,
       c.loop-i.invariant.4 ∙ list_here a.calls.now n c.loop-i.i a.p.now c.loop-i.s c.loop-i.answers inside
-          ∙ rw (x.ensures.0, x.ensures.1, c.put_seven.ensures),
+          ∙ rw (x.ensures.s_value, x.ensures.s_after, c.put_seven.ensures),
     )
 
 pub shape_of-answers : goal.shape_of-answers

@@ -24,4 +24,4 @@ returns c =
     let w =
     event_made a.p.now a.calls.now a.s.now a.i c.decoded.result c.decoded.ensures
     c.event.result c.event.new.s c.event.ensures in
-    (w.0 ∙ ap seven_of_lem (sym c.of_number.ensures), w.1)
+    record { s_value = w.0 ∙ ap seven_of_lem (sym c.of_number.ensures); s_after = w.1 }

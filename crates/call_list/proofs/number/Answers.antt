@@ -2,7 +2,7 @@
 use Prim.Native.Nat.{◌*◌}
 use mathlib.Core.Path.{sym, ◌∙◌}
 use native.Mathlib.Omega.{arith}
-use borrow.Author.Tests.{eq-eqb, ne_eqb, lt-ltb, le-ltb, not-true, not-false}
+use borrow.Author.Tests.{eq-eqb, ne_eqb, lt-ltb, le-ltb}
 use lib.ListN.{length}
 use Rattle.call_list.specs.Table.{count_of, list_number}
 use Rattle.call_list.proofs.number.Goals as goal
@@ -13,7 +13,7 @@ returns-then-calls-ne0 c = rw (ne_eqb _ _ c.if-calls-ne0.true)
 
 pub returns-then-not-kinds : goal.returns-then-not-kinds
 unfolding list_number
-returns-then-not-kinds c = rw (eq-eqb _ _ c.if-calls-ne0.false, sym c.kinds.ensures ∙ not-true _ c.if-not-kinds.true-raw)
+returns-then-not-kinds c = rw (eq-eqb _ _ c.if-calls-ne0.false, sym c.kinds.ensures ∙ c.if-not-kinds.true)
 
 pub returns-then-answers-calls : goal.returns-then-answers-calls
 unfolding list_number
@@ -21,7 +21,7 @@ returns-then-answers-calls c =
     let a = c.args in
     rw (
       eq-eqb _ _ c.if-calls-ne0.false,
-      sym c.kinds.ensures ∙ not-false _ c.if-not-kinds.false-raw,
+      sym c.kinds.ensures ∙ c.if-not-kinds.false,
       lt-ltb (length a.answers.now) (count_of a.calls.now * 7) (omega arith),
     )
 
@@ -31,6 +31,6 @@ returns c =
     let a = c.args in
     rw (
       eq-eqb _ _ c.if-calls-ne0.false,
-      sym c.kinds.ensures ∙ not-false _ c.if-not-kinds.false-raw,
+      sym c.kinds.ensures ∙ c.if-not-kinds.false,
       le-ltb (length a.answers.now) (count_of a.calls.now * 7) (omega arith),
     )

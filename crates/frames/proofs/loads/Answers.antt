@@ -6,4 +6,4 @@ use Rattle.frames.proofs.loads.Goals as goal
 pub returns : goal.returns
 returns c =
     let a = c.args in
-    (latest_loads a.p.now a.s.now c.nodes.result _ c.nodes.ensures c.loads_onto.ensures.value, omega arith)
+    record { value = latest_loads a.p.now a.s.now c.nodes.result _ c.nodes.ensures c.loads_onto.ensures.value; upper_bound = omega arith }

@@ -7,4 +7,4 @@ pub returns : goal.returns
 returns c =
     let a = c.args in
     let f = c.ranges in
-    (c.load.ensures, omega (arith, load_small a.overhead a.share f.overhead.fits f.share.fits))
+    record { value = c.load.ensures; upper_bound = omega (arith, load_small a.overhead a.share f.overhead.fits f.share.fits) }

@@ -13,7 +13,7 @@ pub returns-in_default : goal.returns-in_default
 returns-in_default c =
     let a = c.args in
     let k = c.kind_of-kind.result in
-    root_other a.text.now a.c c.in-Line.start c.in-Line.end c.in-Line.number c.in-Line.next (sym c.in-Line.ensures) k (sym c.kind_of-kind.ensures) (not_hub k c.in_default.in_default-own.keys2)
+    root_other a.text.now a.c c.in-Line.start c.in-Line.end c.in-Line.number c.in-Line.next (sym c.in-Line.ensures) k (sym c.kind_of-kind.ensures) (not_hub k c.in_default.not-Hub)
 
 pub returns-in-Unended : goal.returns-in-Unended
 returns-in-Unended c =

@@ -2,7 +2,7 @@
 use native.Mathlib.Omega.{arith}
 use Rattle.rules.specs.Call.{reserve}
 use Rattle.cells.specs.Calls.{change_by}
-use Rattle.admission.proofs.ReserveRows.{Reserved, reserve_reserved}
+use Rattle.admission.proofs.ReserveRows.{reserve_reserved}
 use Rattle.hub.proofs.CallLaws.{event_refused, event_taken}
 use Rattle.hub.proofs.reserve.Goals as goal
 
@@ -11,23 +11,33 @@ returns-then-row-ne0 c =
     let a = c.args in
     event_refused a.p.now a.s.now (reserve a.t a.k a.n a.b) c.reserve_row-row.ensures c.if-row-ne0.true
 
--- BY HAND
-kept : (c : tie.Else1) → Reserved c.before.before.before.args.p.now c.before.before.before.args.k c.before.before.before.args.n c.before.before.before.args.b
-kept c =
-    let a = c.before.before.before.args in
-    reserve_reserved a.p.now a.s.now a.t a.k a.n a.b c.before.reserve-row.ensures c.if1.false
-
 pub overflow_cast-k : goal.overflow_cast-k
-overflow_cast-k c = let w = kept c in omega arith
+overflow_cast-k c =
+    let a = c.args in
+    -- its node is one of the plan, and its figures fit a half of a cell each
+    let kept = reserve_reserved a.p.now a.s.now a.t a.k a.n a.b c.reserve_row-row.ensures c.if-row-ne0.false in
+    omega arith
 
 pub overflow_cast-n : goal.overflow_cast-n
-overflow_cast-n c = let w = kept c in omega arith
+overflow_cast-n c =
+    let a = c.args in
+    -- its node is one of the plan, and its figures fit a half of a cell each
+    let kept = reserve_reserved a.p.now a.s.now a.t a.k a.n a.b c.reserve_row-row.ensures c.if-row-ne0.false in
+    omega arith
 
 pub overflow_cast-b : goal.overflow_cast-b
-overflow_cast-b c = let w = kept c in omega arith
+overflow_cast-b c =
+    let a = c.args in
+    -- its node is one of the plan, and its figures fit a half of a cell each
+    let kept = reserve_reserved a.p.now a.s.now a.t a.k a.n a.b c.reserve_row-row.ensures c.if-row-ne0.false in
+    omega arith
 
 pub put_latest-requires : goal.put_latest-requires
-put_latest-requires c = let w = kept c in omega arith
+put_latest-requires c =
+    let a = c.args in
+    -- its node is one of the plan, and its figures fit a half of a cell each
+    let kept = reserve_reserved a.p.now a.s.now a.t a.k a.n a.b c.reserve_row-row.ensures c.if-row-ne0.false in
+    omega arith
 
 pub returns : goal.returns
 unfolding change_by

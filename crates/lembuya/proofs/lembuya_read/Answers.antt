@@ -11,13 +11,13 @@ pub returns-in-Taken : goal.returns-in-Taken
 returns-in-Taken c =
     let a = c.args in
     let e = c.read.ensures in
-    let x = sym c.in-Taken.is ∙ e.0 in
+    let x = sym c.in-Taken.is ∙ e.value in
     let w = taken_told a.told.now c.in-Taken.nodes c.in-Taken.hubs c.in-Taken.at c.in-Taken.line x c.tell.ensures (omega arith) in
-    (w.0, (e.1, w.1))
+    record { value = w.0; plan_after = e.plan_after; told_after = w.1 }
 
 pub returns-in-Refused : goal.returns-in-Refused
 returns-in-Refused c =
     let a = c.args in
     let e = c.read.ensures in
-    let w = refused_told a.told.now c.in-Refused.line c.in-Refused.number (sym c.in-Refused.is ∙ e.0) in
-    (w.0, (e.1, ap (λ (n : ℕ). set a.told.now 3 n) (omega arith) ∙ w.1))
+    let w = refused_told a.told.now c.in-Refused.line c.in-Refused.number (sym c.in-Refused.is ∙ e.value) in
+    record { value = w.0; plan_after = e.plan_after; told_after = ap (λ (n : ℕ). set a.told.now 3 n) (omega arith) ∙ w.1 }

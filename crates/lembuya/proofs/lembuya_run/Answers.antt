@@ -9,14 +9,26 @@ pub returns-in-Behind : goal.returns-in-Behind
 returns-in-Behind c =
     let a = c.args in
     let e = c.run.ensures in
-    let x = sym c.in-Behind.is ∙ e.0 in
+    let x = sym c.in-Behind.is ∙ e.value in
     let w = behind_number a.log.now (log_bytes a.text.now) c.in-Behind.z x in
-    (omega (arith, w), (e.1.0, (behind_end a.end.now c.in-Behind.z x, e.1.1.1)))
+    record {
+      value = omega (arith, w);
+      log_after = e.buffer_after;
+      end_after = behind_end a.end.now c.in-Behind.z x;
+      plan_after = e.plan_after;
+      s_after = e.s_after;
+    }
 
 pub returns-in-Short : goal.returns-in-Short
 returns-in-Short c =
     let a = c.args in
     let e = c.run.ensures in
-    let x = sym c.in-Short.is ∙ e.0 in
+    let x = sym c.in-Short.is ∙ e.value in
     let w = short_number a.log.now (log_bytes a.text.now) x in
-    (omega (arith, w), (e.1.0, (short_end a.end.now x, e.1.1.1)))
+    record {
+      value = omega (arith, w);
+      log_after = e.buffer_after;
+      end_after = short_end a.end.now x;
+      plan_after = e.plan_after;
+      s_after = e.s_after;
+    }

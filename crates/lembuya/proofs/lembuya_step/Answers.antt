@@ -10,7 +10,8 @@ returns-in-Grant c =
     let a = c.args in
     let e = c.step.ensures in
     let w = c.put_step.ensures in
-    stepped a.p.now a.t a.s.now a.answer.now (sym c.in-Grant.is ∙ e.0) e.1 w.0 w.1
+    let told = stepped a.p.now a.t a.s.now a.answer.now (sym c.in-Grant.is ∙ e.0) e.1 w.answer_after w.value in
+    record { value = told.0; answer_after = told.1.0; s_after = told.1.1 }
 
 pub returns-in-Rest : goal.returns-in-Rest
 unfolding step_seven stored
@@ -18,7 +19,8 @@ returns-in-Rest c =
     let a = c.args in
     let e = c.step.ensures in
     let w = c.put_step-in-Rest.ensures in
-    stepped a.p.now a.t a.s.now a.answer.now (sym c.in-Rest.is ∙ e.0) e.1 w.0 w.1
+    let told = stepped a.p.now a.t a.s.now a.answer.now (sym c.in-Rest.is ∙ e.0) e.1 w.answer_after w.value in
+    record { value = told.0; answer_after = told.1.0; s_after = told.1.1 }
 
 pub returns-in-Quiet : goal.returns-in-Quiet
 unfolding step_seven stored
@@ -26,11 +28,13 @@ returns-in-Quiet c =
     let a = c.args in
     let e = c.step.ensures in
     let w = c.put_step-in-Quiet.ensures in
-    stepped a.p.now a.t a.s.now a.answer.now (sym c.in-Quiet.is ∙ e.0) e.1 w.0 w.1
+    let told = stepped a.p.now a.t a.s.now a.answer.now (sym c.in-Quiet.is ∙ e.0) e.1 w.answer_after w.value in
+    record { value = told.0; answer_after = told.1.0; s_after = told.1.1 }
 
 pub returns-in-Refused : goal.returns-in-Refused
 unfolding step_seven stored
 returns-in-Refused c =
     let a = c.args in
     let e = c.step.ensures in
-    stepped a.p.now a.t a.s.now a.answer.now (sym c.in-Refused.is ∙ e.0) e.1 refl refl
+    let told = stepped a.p.now a.t a.s.now a.answer.now (sym c.in-Refused.is ∙ e.0) e.1 refl refl in
+    record { value = told.0; answer_after = told.1.0; s_after = told.1.1 }

@@ -5,4 +5,4 @@ use Rattle.lembuya.proofs.put_step.Goals as goal
 
 pub returns : goal.returns
 unfolding put_seven
-returns c = (refl, refl)
+returns c = record { answer_after = refl; value = refl }

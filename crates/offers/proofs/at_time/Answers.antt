@@ -9,15 +9,6 @@ use Rattle.admission.proofs.BySum.{row_small, as_single}
 use Rattle.offers.proofs.Laws.{offer_at, has_room, so_far, at_first, one_more, at_last, none_written}
 use Rattle.offers.proofs.at_time.Goals as goal
 
--- BY HAND
--- where the call isn't refused there is a byte for each answer
-room : (d : goal.After-loads-all → length d.before.before.before.before.before.before.before.args.offers.now / 3
-    ≤ length d.before.before.before.before.before.before.before.args.answers.now
-room d =
-    let a = d.before.before.before.before.before.before.before.args in
-    has_room a.p.now a.t a.s.now a.offers.now a.answers.now
-    (sym d.before.before.before.number.ensures ∙ d.before.before.if1.false)
-
 pub returns-then-r-ne0 : goal.returns-then-r-ne0
 returns-then-r-ne0 c =
     let a = c.args in
@@ -35,18 +26,22 @@ loop-i-init c =
 
 pub bounds-answers-i : goal.bounds-answers-i
 bounds-answers-i c =
-    omega (arith, c.loop-i.invariant.2, room c, c.loop-i-test.true)
+    let a = c.args in
+    -- where the call isn't refused there is a byte for each answer
+    let room = has_room a.p.now a.t a.s.now a.offers.now a.answers.now (sym c.number-r.ensures ∙ c.if-r-ne0.false) in
+    omega (arith, c.loop-i.invariant.2, room, c.loop-i-test.true)
 
 pub loop-i-preserved : goal.loop-i-preserved
 loop-i-preserved c =
     let a = c.args in
+    let room = has_room a.p.now a.t a.s.now a.offers.now a.answers.now (sym c.number-r.ensures ∙ c.if-r-ne0.false) in
     let inside = c.loop-i-test.true in
     let one = offer_at a.offers.now c.loop-i.i in (
       refl,
       omega (arith, inside),
       length-set c.loop-i.answers c.loop-i.i c.answer.result ∙ c.loop-i.invariant.2,
       ap (λ (b : List ℕ). set b c.loop-i.i c.answer.result) c.loop-i.invariant.3
-          ∙ one_more a.p.now a.t a.s.now a.offers.now a.answers.now c.loop-i.i inside (room c) c.answer.result
+          ∙ one_more a.p.now a.t a.s.now a.offers.now a.answers.now c.loop-i.i inside room c.answer.result
           (c.answer.ensures
           ∙ as_single a.p.now c.loads-all.result one.node one.packets one.bits a.s.now c.loads-all.ensures.value a.t c.time_row-late.ensures),
     )

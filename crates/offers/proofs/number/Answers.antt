@@ -20,19 +20,18 @@ returns-then-offers-gt64 c =
     let a = c.args in
     rw (eq-eqb _ _ c.if-offers-ne0.false, offers_count a.offers.now, lt-ltb 64 (length a.offers.now / 3) (omega (arith, c.if-offers-gt64.true)))
 
--- BY HAND
--- no more than 64 offers
-few : (c : tie.Else2) → ltb 64 (length c.before.before.args.offers.now / 3) ≡ false
-few c = le-ltb 64 (length c.before.before.args.offers.now / 3) (omega (arith, c.if2.false))
-
 pub returns-then-answers-offers : goal.returns-then-answers-offers
 unfolding offers_row
 returns-then-answers-offers c =
     let a = c.args in
-    rw (eq-eqb _ _ c.if-offers-ne0.false, offers_count a.offers.now, few c, lt-ltb (length a.answers.now) (length a.offers.now / 3) (omega (arith, c.if-answers-offers.true)))
+    -- no more than 64 offers
+    let few : ltb 64 (length a.offers.now / 3) ≡ false = le-ltb 64 (length a.offers.now / 3) (omega (arith, c.if-offers-gt64.false)) in
+    rw (eq-eqb _ _ c.if-offers-ne0.false, offers_count a.offers.now, few, lt-ltb (length a.answers.now) (length a.offers.now / 3) (omega (arith, c.if-answers-offers.true)))
 
 pub returns : goal.returns
 unfolding offers_row
 returns c =
     let a = c.args in
-    rw (eq-eqb _ _ c.if-offers-ne0.false, offers_count a.offers.now, few c, le-ltb (length a.answers.now) (length a.offers.now / 3) (omega (arith, c.if-answers-offers.false)))
+    -- no more than 64 offers
+    let few : ltb 64 (length a.offers.now / 3) ≡ false = le-ltb 64 (length a.offers.now / 3) (omega (arith, c.if-offers-gt64.false)) in
+    rw (eq-eqb _ _ c.if-offers-ne0.false, offers_count a.offers.now, few, le-ltb (length a.answers.now) (length a.offers.now / 3) (omega (arith, c.if-answers-offers.false)))

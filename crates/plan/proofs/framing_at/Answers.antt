@@ -12,7 +12,7 @@ pub returns-then-number-ne0 : goal.returns-then-number-ne0
 returns-then-number-ne0 c =
     let a = c.args in
     let e = framing_not a.text.now (length a.text.now) a.t a.o a.d a.c c.in-Says.value c.in-Says.next (sym c.in-Says.ensures) (λ z. c.if-number-ne0.true (c.framing_row-number.ensures ∙ z)) in
-    (ap (λ (n : ℕ). Refused a.c.number n) c.framing_row-number.ensures ∙ sym (ap (λ (r : Read). r.answer) e), sym (ap (λ (r : Read). leaves r a.plan.now) e))
+    record { value = ap (λ (n : ℕ). Refused a.c.number n) c.framing_row-number.ensures ∙ sym (ap (λ (r : Read). r.answer) e); plan_after = sym (ap (λ (r : Read). leaves r a.plan.now) e) }
 
 pub strict_at-requires : goal.strict_at-requires
 strict_at-requires c =
@@ -24,10 +24,10 @@ pub returns-else-number-ne0 : goal.returns-else-number-ne0
 returns-else-number-ne0 c =
     let a = c.args in
     let e = framing_got a.text.now (length a.text.now) a.t a.o a.d a.c c.in-Says.value c.in-Says.next (sym c.in-Says.ensures) (sym c.framing_row-number.ensures ∙ c.if-number-ne0.false) in
-    (c.strict_at.ensures.value ∙ sym (ap (λ (r : Read). r.answer) e), c.strict_at.ensures.plan_after ∙ sym (ap (λ (r : Read). leaves r a.plan.now) e))
+    record { value = c.strict_at.ensures.value ∙ sym (ap (λ (r : Read). r.answer) e); plan_after = c.strict_at.ensures.plan_after ∙ sym (ap (λ (r : Read). leaves r a.plan.now) e) }
 
 pub returns-in-Absent : goal.returns-in-Absent
 returns-in-Absent c =
     let a = c.args in
     let e = framing_absent a.text.now (length a.text.now) a.t a.o a.d a.c (sym c.in-Absent.ensures) in
-    (c.strict_at-in-Absent.ensures.value ∙ sym (ap (λ (r : Read). r.answer) e), c.strict_at-in-Absent.ensures.plan_after ∙ sym (ap (λ (r : Read). leaves r a.plan.now) e))
+    record { value = c.strict_at-in-Absent.ensures.value ∙ sym (ap (λ (r : Read). r.answer) e); plan_after = c.strict_at-in-Absent.ensures.plan_after ∙ sym (ap (λ (r : Read). leaves r a.plan.now) e) }

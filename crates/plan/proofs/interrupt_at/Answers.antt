@@ -20,10 +20,10 @@ pub returns-in-Got : goal.returns-in-Got
 returns-in-Got c =
     let a = c.args in
     let e = interrupt_got a.text.now (length a.text.now) a.t a.o a.c c.in-Got.value c.in-Got.next (sym c.in-Got.ensures) in
-    (c.framing_at.ensures.value ∙ sym (ap (λ (r : Read). r.answer) e), c.framing_at.ensures.plan_after ∙ sym (ap (λ (r : Read). leaves r a.plan.now) e))
+    record { value = c.framing_at.ensures.value ∙ sym (ap (λ (r : Read). r.answer) e); plan_after = c.framing_at.ensures.plan_after ∙ sym (ap (λ (r : Read). leaves r a.plan.now) e) }
 
 pub returns-in-Not : goal.returns-in-Not
 returns-in-Not c =
     let a = c.args in
     let e = interrupt_not a.text.now (length a.text.now) a.t a.o a.c c.in-Not.line c.in-Not.number (sym c.in-Not.ensures) in
-    (sym (ap (λ (r : Read). r.answer) e), sym (ap (λ (r : Read). leaves r a.plan.now) e))
+    record { value = sym (ap (λ (r : Read). r.answer) e); plan_after = sym (ap (λ (r : Read). leaves r a.plan.now) e) }

@@ -18,11 +18,11 @@ overhead_at-requires c =
 pub returns-in-Got : goal.returns-in-Got
 returns-in-Got c =
     let a = c.args in
-    let e = frame_got a.text.now c.UNKNOWN-well-formed.0.0 c.in-Got.value c.in-Got.next (sym (ap (λ (x : Cursor). figure_at a.text.now x frame_word 100000 4000000) (at_first c.first_line.ensures)) ∙ sym c.in-Got.ensures) in
-    (c.overhead_at.ensures.value ∙ sym (ap (λ (r : Read). r.answer) e), c.overhead_at.ensures.plan_after ∙ sym (ap (λ (r : Read). leaves r a.plan.now) e))
+    let e = frame_got a.text.now (omega arith) c.in-Got.value c.in-Got.next (sym (ap (λ (x : Cursor). figure_at a.text.now x frame_word 100000 4000000) (at_first c.first_line.ensures)) ∙ sym c.in-Got.ensures) in
+    record { value = c.overhead_at.ensures.value ∙ sym (ap (λ (r : Read). r.answer) e); plan_after = c.overhead_at.ensures.plan_after ∙ sym (ap (λ (r : Read). leaves r a.plan.now) e) }
 
 pub returns-in-Not : goal.returns-in-Not
 returns-in-Not c =
     let a = c.args in
-    let e = frame_not a.text.now c.UNKNOWN-well-formed.0.0 c.in-Not.line c.in-Not.number (sym (ap (λ (x : Cursor). figure_at a.text.now x frame_word 100000 4000000) (at_first c.first_line.ensures)) ∙ sym c.in-Not.ensures) in
-    (sym (ap (λ (r : Read). r.answer) e), sym (ap (λ (r : Read). leaves r a.plan.now) e))
+    let e = frame_not a.text.now (omega arith) c.in-Not.line c.in-Not.number (sym (ap (λ (x : Cursor). figure_at a.text.now x frame_word 100000 4000000) (at_first c.first_line.ensures)) ∙ sym c.in-Not.ensures) in
+    record { value = sym (ap (λ (r : Read). r.answer) e); plan_after = sym (ap (λ (r : Read). leaves r a.plan.now) e) }

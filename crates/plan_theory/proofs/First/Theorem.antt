@@ -148,7 +148,7 @@ refused_decided text line number e =
       its_number = λ h. D.its_number ∙ later-sum D.above 1 h;
       row = applies (lines text) (D.above + 1) number row;
       first-line = λ n k r. omega (arith, first-line (lines text) D.above D.clean D.whole n k r (which (leb n D.above)));
-      first_row_lem = λ k r. first_row_lem (lines text) (D.above + 1) number k row r;
+      first_row = λ k r. first_row_lem (lines text) (D.above + 1) number k row r;
       none_above = λ short s. ap (λ (x : Lines). (frame_line x (record { at = 0; number = 1 })).answer) s ∙ D.none_above;
       none_below = λ other s. D.none_below (lines other) (rw (← add-one D.above) s);
     }

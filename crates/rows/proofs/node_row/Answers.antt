@@ -12,10 +12,10 @@ pub returns-then-no_node : goal.returns-then-no_node
 returns-then-no_node c =
     let a = c.args in
     off_goes_on a.p.now a.s.now a.t a.k c.time_row-row.ensures c.if-row-ne0.false
-    (rw (sym c.UNKNOWN-no_Node.ensures ∙ c.if-no_node.true))
+    (rw (sym c.no_node.ensures ∙ c.if-no_node.true))
 
 pub returns : goal.returns
 returns c =
     let a = c.args in
     off_goes_on a.p.now a.s.now a.t a.k c.time_row-row.ensures c.if-row-ne0.false
-    (rw (sym c.UNKNOWN-no_Node.ensures ∙ c.if-no_node.false))
+    (rw (sym c.no_node.ensures ∙ c.if-no_node.false))

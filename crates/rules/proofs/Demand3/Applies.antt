@@ -33,7 +33,7 @@ answered = refl
 
 -- the frame figures are those of the example
 figures : Figures plan01
-figures = record { frame_low_lem = omega arith; frame_up = omega arith; overhead_up = omega arith; interrupt_low_lem = omega arith; interrupt_up = omega arith }
+figures = record { frame_low = omega arith; frame_up = omega arith; overhead_up = omega arith; interrupt_low = omega arith; interrupt_up = omega arith }
 
 high_before : High plan01 3 before
 unfolding before clock_at request_at reserved

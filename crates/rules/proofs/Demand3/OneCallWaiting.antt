@@ -60,13 +60,13 @@ module _ (p : Plan) (fig : Figures p) (M : Machine) (follows : Follows p M) (k f
             omega (arith, facts.sound.short k r.bits high r.stands, facts.sound.long k r.bits high r.stands)
 
         go : {x : Due} → Instant p s x → due p s ≡ x → DueBefore p s (f * p.frame + p.interrupt)
-        go (line_ends e l) q = record { time = e; is = q; soon = omega (arith, facts.sound.end_soon e l, fig.interrupt_low_lem) }
+        go (line_ends e l) q = record { time = e; is = q; soon = omega (arith, facts.sound.end_soon e l, fig.interrupt_low) }
         go (one_counts l c) q = record { time = s.clock; is = q; soon = omega arith }
         go (one_held l c h) q =
             record {
               time = (frame_of p s.clock + 1) * p.frame;
               is = q;
-              soon = (let n : frame_of p s.clock + 1 ≤ f = omega (arith, not_yet) in omega (arith, mul-le-mul_right p.frame n, some_packet, fig.interrupt_low_lem));
+              soon = (let n : frame_of p s.clock + 1 ≤ f = omega (arith, not_yet) in omega (arith, mul-le-mul_right p.frame n, some_packet, fig.interrupt_low));
             }
         go (no_instant l c h) q = absurd (counts-or-held p s k w (standing_before p k f R past s facts not_yet) c h)
 
@@ -81,7 +81,7 @@ module _ (p : Plan) (fig : Figures p) (M : Machine) (follows : Follows p M) (k f
     outside t e l = omega (arith, not_started p fig f s.clock early)
 
     line-held : (b t : ℕ) → f * p.frame + p.interrupt ≤ b → t ≤ b → (l : Line) → s.line ≡ l → Held b t 0 l
-    line-held b t low h (busy e) q = until_end e (omega (arith, facts.sound.end_soon e q, fig.interrupt_low_lem))
+    line-held b t low h (busy e) q = until_end e (omega (arith, facts.sound.end_soon e q, fig.interrupt_low))
     line-held b t low h resting q = at_rest h refl
 
     event_enters : (call : Call) (t : ℕ) → f * p.frame ≤ t → t < f * p.frame + p.interrupt → {c : Core} → Advanced p t s c

@@ -41,11 +41,11 @@ module _ (p : Plan) (fig : Figures p) (s : Core) (ok : Sound p s) where
   by-due : (k b : ℕ) (c : Class) → s.request k ≡ standing c b → (t : ℕ) {d : Due} → Instant p s d → before d t ≡ false
       → frame_of p t ≤ frame_of p s.clock + 1
   by-due k b c r t (line_ends e l) n =
-      within_one t (omega (arith, ltb-false e t n, ok.end_soon e l, fig.interrupt_low_lem, fig.interrupt_up))
+      within_one t (omega (arith, ltb-false e t n, ok.end_soon e l, fig.interrupt_low, fig.interrupt_up))
   by-due k b c r t (one_counts l e) n = within_one t (omega (arith, ltb-false s.clock t n))
   by-due k b c r t (one_held l e h) n =
       let f = frame_of p s.clock in
-      not_ended p fig (f + 1) t (omega (arith, ltb-false ((f + 1) * p.frame) t n, next_start p fig (f + 1), fig.frame_low_lem))
+      not_ended p fig (f + 1) t (omega (arith, ltb-false ((f + 1) * p.frame) t n, next_start p fig (f + 1), fig.frame_low))
   by-due k b c r t (no_instant l e h) n =
       let w = ok.node k b c r in
       absurd (counts-or-held s k b c r (any_none p.nodes (counts s) e k w) (any_none p.nodes (held s) h k w))

@@ -138,7 +138,7 @@ waits p drawn calls =
       unaffected = unaffected p (control p) calls;
       same_hub = same_hub p (control p) calls;
       recorded_told = recorded_told p drawn.figures (control p) follows drawn.some_node calls;
-      waits_told_lem = waits_told_lem p drawn.figures (control p) follows drawn.some_node calls;
+      waits_told = waits_told_lem p drawn.figures (control p) follows drawn.some_node calls;
       high_told = high_told p drawn.figures (control p) follows drawn.some_node calls;
       one_start = one_start_more p drawn.figures (control p) follows drawn.some_node calls;
     }

@@ -8,4 +8,4 @@ unfolding grant_by plan_of
 returns c =
     let end = c.end_of-end.ensures in
     let bits = c.bits_at.ensures in
-    (rw (c.class_number.ensures, c.wait-wait.ensures, end, bits), rw (c.busy_until.ensures, c.grant_node.ensures, end, bits))
+    record { value = rw (c.class_number.ensures, c.wait-wait.ensures, end, bits); s_after = rw (c.busy_until.ensures, c.grant_node.ensures, end, bits) }

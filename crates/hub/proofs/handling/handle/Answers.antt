@@ -8,10 +8,10 @@ unfolding handled_by
 returns-in-Class c =
     let q = sym c.in-Class.ensures in
     let e = c.choose-t.ensures in
-    (rw (q, ← e.0, ← e.1) c.grant_turn.ensures.value, rw (q, ← e.0, ← e.1) c.grant_turn.ensures.s_after)
+    record { value = rw (q, ← e.value, ← e.s_after) c.grant_turn.ensures.value; s_after = rw (q, ← e.value, ← e.s_after) c.grant_turn.ensures.s_after }
 
 pub returns-in-Nothing : goal.returns-in-Nothing
 unfolding handled_by
 returns-in-Nothing c =
     let q = sym c.in-Nothing.ensures in
-    (rw q c.rest.ensures.value, rw q c.rest.ensures.s_after)
+    record { value = rw q c.rest.ensures.value; s_after = rw q c.rest.ensures.s_after }

@@ -5,4 +5,4 @@ use Rattle.hub.proofs.handling.rest.Goals as goal
 
 pub returns : goal.returns
 unfolding rest_by resting
-returns c = (rw c.climb-moves.ensures.value, refl)
+returns c = record { value = rw c.climb-moves.ensures.value; s_after = refl }

@@ -10,111 +10,102 @@ use Rattle.plan_tree.proofs.Cited.ReaderLaws.{none_left, unended_stops, done_sto
 use Rattle.plan_tree.proofs.Cited.PortLaws.{port_room, port_node, port_empty, port_close, port_other, no_port, no_hub, no_level, opens}
 use Rattle.plan_tree.proofs.readers.+hub_reader_port_reader.Goals as goal
 
--- BY HAND
--- what the functions that each one calls ask and ensure
-abbrev hub_met : ℕ → hub-reader-lts.Claims
-hub_met t = (line-at-reads.Asked, line-at-reads.Learnt, kind-of-reads.Asked, kind-of-reads.Learnt, close-hub-reads.Asked, close-hub-reads.Learnt, port_reader_below t, port-reader.Post, hub_reader_below t, hub-reader.Post)
-
--- BY HAND
-abbrev port_met : ℕ → port-reader-lts.Claims
-port_met t = (node-port-reads.Asked, node-port-reads.Learnt, empty-port-reads.Asked, empty-port-reads.Learnt, put-hub-reads.Asked, put-hub-reads.Learnt, hub_reader_below t, hub-reader.Post)
-
 pub hub_reader-returns-then-left-eq0 : goal.hub_reader-returns-then-left-eq0
 hub_reader-returns-then-left-eq0 t c =
     let e = none_left _ _ _ _ _ _ _ c.if-left-eq0.true in
-    (sym (ap (λ (d : Answered). d.part) e), sym (ap (λ (d : Answered). d.tables) e))
+    record { value = sym (ap (λ (d : Answered). d.part) e); s_after = sym (ap (λ (d : Answered). d.tables) e) }
 
 pub hub_reader-returns-in-Close : goal.hub_reader-returns-in-Close
 hub_reader-returns-in-Close t c =
     let a = c.args in
     let e = closes a.text.now a.left a.x a.g a.q a.levels a.s.now c.if-left-eq0.false c.in-Line.start c.in-Line.end c.in-Line.number c.in-Line.next (sym c.in-Line.ensures) (sym c.in-Close.ensures) in
-    (c.close_hub.ensures.value ∙ sym (ap (λ (d : Answered). d.part) e), c.close_hub.ensures.s_after ∙ sym (ap (λ (d : Answered). d.tables) e))
+    record { value = c.close_hub.ensures.value ∙ sym (ap (λ (d : Answered). d.part) e); s_after = c.close_hub.ensures.s_after ∙ sym (ap (λ (d : Answered). d.tables) e) }
 
 pub hub_reader-hub_reader-requires : goal.hub_reader-hub_reader-requires
 hub_reader-hub_reader-requires t c =
     let a = c.args in
     let pre = c.requires in
     let some = c.if-left-eq0.false in
-    let r = port_room a.text.now (a.left - 1) c.kind_of-kind.result c.in-Line.number (moved c.in-Line.next a.x) a.g a.q a.levels a.s.now c.in-Read.z (sym c.in-Read.ensures) in
-    (omega arith, (pre.1.0, (pre.1.1.0, omega arith)))
+    let r = port_room a.text.now (a.left - 1) c.kind_of-kind.result c.in-Line.number (moved c.in-Line.next a.x) a.g a.q a.levels a.s.now c.in-Read.z (sym c.in-Read.ensures.value) in
+    (omega arith, (pre.le_g, (pre.levels_bound, omega arith)))
 
 pub hub_reader-returns-in-Read : goal.hub_reader-returns-in-Read
 hub_reader-returns-in-Read t c =
     let a = c.args in
     let k = c.kind_of-kind.result in
-    let e = port_read a.text.now a.left a.x a.g a.q a.levels a.s.now c.if-left-eq0.false c.in-Line.start c.in-Line.end c.in-Line.number c.in-Line.next (sym c.in-Line.ensures) k (sym c.kind_of-kind.ensures) (not_close k c.in_default.in_default-own.keys2) c.in-Read.z (sym c.in-Read.ensures) in
-    let f = c.port_reader.ensures.s_after in (
-      c.hub_reader.ensures.value ∙ ap (λ (u : List ℕ). (hub_reader a.text.now (a.left - 1) c.in-Read.z a.g (a.q + 1) a.levels u).part) f ∙ sym (ap (λ (d : Answered). d.part) e),
-      c.hub_reader.ensures.s_after ∙ ap (λ (u : List ℕ). (hub_reader a.text.now (a.left - 1) c.in-Read.z a.g (a.q + 1) a.levels u).tables) f ∙ sym (ap (λ (d : Answered). d.tables) e),
-    )
+    let e = port_read a.text.now a.left a.x a.g a.q a.levels a.s.now c.if-left-eq0.false c.in-Line.start c.in-Line.end c.in-Line.number c.in-Line.next (sym c.in-Line.ensures) k (sym c.kind_of-kind.ensures) (not_close k c.in_default.not-Close) c.in-Read.z (sym c.in-Read.ensures.value) in
+    let f = c.port_reader.ensures.s_after in record {
+      value = c.hub_reader.ensures.value ∙ ap (λ (u : List ℕ). (hub_reader a.text.now (a.left - 1) c.in-Read.z a.g (a.q + 1) a.levels u).part) f ∙ sym (ap (λ (d : Answered). d.part) e);
+      s_after = c.hub_reader.ensures.s_after ∙ ap (λ (u : List ℕ). (hub_reader a.text.now (a.left - 1) c.in-Read.z a.g (a.q + 1) a.levels u).tables) f ∙ sym (ap (λ (d : Answered). d.tables) e);
+    }
 
 pub hub_reader-returns-in-Stopped : goal.hub_reader-returns-in-Stopped
 hub_reader-returns-in-Stopped t c =
     let a = c.args in
     let k = c.kind_of-kind.result in
-    let e = port_stops a.text.now a.left a.x a.g a.q a.levels a.s.now c.if-left-eq0.false c.in-Line.start c.in-Line.end c.in-Line.number c.in-Line.next (sym c.in-Line.ensures) k (sym c.kind_of-kind.ensures) (not_close k c.in_default.in_default-own.keys2) c.in-Stopped.line c.in-Stopped.number (sym c.in-Stopped.ensures) in
+    let e = port_stops a.text.now a.left a.x a.g a.q a.levels a.s.now c.if-left-eq0.false c.in-Line.start c.in-Line.end c.in-Line.number c.in-Line.next (sym c.in-Line.ensures) k (sym c.kind_of-kind.ensures) (not_close k c.in_default.not-Close) c.in-Stopped.line c.in-Stopped.number (sym c.in-Stopped.ensures.value) in
     let f = c.port_reader.ensures in
-    (sym c.in-Stopped.is ∙ f.0 ∙ sym (ap (λ (d : Answered). d.part) e), f.1 ∙ sym (ap (λ (d : Answered). d.tables) e))
+    record { value = sym c.in-Stopped.is ∙ f.value ∙ sym (ap (λ (d : Answered). d.part) e); s_after = f.s_after ∙ sym (ap (λ (d : Answered). d.tables) e) }
 
 pub hub_reader-returns-in-Unended : goal.hub_reader-returns-in-Unended
 hub_reader-returns-in-Unended t c =
     let a = c.args in
     let e = unended_stops a.text.now a.left a.x a.g a.q a.levels a.s.now c.if-left-eq0.false c.in-Unended.start c.in-Unended.end c.in-Unended.number (sym c.in-Unended.ensures) in
-    (sym (ap (λ (d : Answered). d.part) e), sym (ap (λ (d : Answered). d.tables) e))
+    record { value = sym (ap (λ (d : Answered). d.part) e); s_after = sym (ap (λ (d : Answered). d.tables) e) }
 
 pub hub_reader-returns-in-Done : goal.hub_reader-returns-in-Done
 hub_reader-returns-in-Done t c =
     let a = c.args in
     let e = done_stops a.text.now a.left a.x a.g a.q a.levels a.s.now c.if-left-eq0.false c.in-Done.number (sym c.in-Done.ensures) in
-    (sym (ap (λ (d : Answered). d.part) e), sym (ap (λ (d : Answered). d.tables) e))
+    record { value = sym (ap (λ (d : Answered). d.part) e); s_after = sym (ap (λ (d : Answered). d.tables) e) }
 
 pub port_reader-returns-then-q-ge32 : goal.port_reader-returns-then-q-ge32
 port_reader-returns-then-q-ge32 t c =
     let a = c.args in
     let e = no_port a.text.now a.left a.kind a.line a.x a.g a.q a.levels a.s.now c.in-Hub.is c.if-q-ge32.true in
-    (sym (ap (λ (d : Answered). d.part) e), sym (ap (λ (d : Answered). d.tables) e))
+    record { value = sym (ap (λ (d : Answered). d.part) e); s_after = sym (ap (λ (d : Answered). d.tables) e) }
 
 pub port_reader-returns-then-hubs-ge32 : goal.port_reader-returns-then-hubs-ge32
 port_reader-returns-then-hubs-ge32 t c =
     let a = c.args in
     let e = no_hub a.text.now a.left a.kind a.line a.x a.g a.q a.levels a.s.now c.in-Hub.is c.if-q-ge32.false c.if-hubs-ge32.true in
-    (sym (ap (λ (d : Answered). d.part) e), sym (ap (λ (d : Answered). d.tables) e))
+    record { value = sym (ap (λ (d : Answered). d.part) e); s_after = sym (ap (λ (d : Answered). d.tables) e) }
 
 pub port_reader-returns-then-levels-eq0 : goal.port_reader-returns-then-levels-eq0
 port_reader-returns-then-levels-eq0 t c =
     let a = c.args in
     let e = no_level a.text.now a.left a.kind a.line a.x a.g a.q a.levels a.s.now c.in-Hub.is c.if-q-ge32.false c.if-hubs-ge32.false c.if-levels-eq0.true in
-    (sym (ap (λ (d : Answered). d.part) e), sym (ap (λ (d : Answered). d.tables) e))
+    record { value = sym (ap (λ (d : Answered). d.part) e); s_after = sym (ap (λ (d : Answered). d.tables) e) }
 
 pub port_reader-returns-in-Node : goal.port_reader-returns-in-Node
 port_reader-returns-in-Node t c =
     let a = c.args in
     let e = port_node a.text.now a.left a.kind a.line a.x a.g a.q a.levels a.s.now c.in-Node.is in
-    (c.node_port.ensures.value ∙ sym (ap (λ (d : Answered). d.part) e), c.node_port.ensures.s_after ∙ sym (ap (λ (d : Answered). d.tables) e))
+    record { value = c.node_port.ensures.value ∙ sym (ap (λ (d : Answered). d.part) e); s_after = c.node_port.ensures.s_after ∙ sym (ap (λ (d : Answered). d.tables) e) }
 
 pub port_reader-returns-in-Empty : goal.port_reader-returns-in-Empty
 port_reader-returns-in-Empty t c =
     let a = c.args in
     let e = port_empty a.text.now a.left a.kind a.line a.x a.g a.q a.levels a.s.now c.in-Empty.is in
-    (c.empty_port.ensures.value ∙ sym (ap (λ (d : Answered). d.part) e), c.empty_port.ensures.s_after ∙ sym (ap (λ (d : Answered). d.tables) e))
+    record { value = c.empty_port.ensures.value ∙ sym (ap (λ (d : Answered). d.part) e); s_after = c.empty_port.ensures.s_after ∙ sym (ap (λ (d : Answered). d.tables) e) }
 
 pub port_reader-returns-else-levels-eq0 : goal.port_reader-returns-else-levels-eq0
 port_reader-returns-else-levels-eq0 t c =
     let a = c.args in
     let e = opens a.text.now a.left a.kind a.line a.x a.g a.q a.levels a.s.now c.in-Hub.is c.if-q-ge32.false c.if-hubs-ge32.false c.if-levels-eq0.false in
-    let f = c.put_hub.ensures in (
-      c.hub_reader.ensures.value ∙ ap (λ (u : List ℕ). (hub_reader a.text.now a.left (with_hub a.x) (a.x.hubs + 1) 0 (a.levels - 1) u).part) f ∙ sym (ap (λ (d : Answered). d.part) e),
-      c.hub_reader.ensures.s_after ∙ ap (λ (u : List ℕ). (hub_reader a.text.now a.left (with_hub a.x) (a.x.hubs + 1) 0 (a.levels - 1) u).tables) f ∙ sym (ap (λ (d : Answered). d.tables) e),
-    )
+    let f = c.put_hub.ensures in record {
+      value = c.hub_reader.ensures.value ∙ ap (λ (u : List ℕ). (hub_reader a.text.now a.left (with_hub a.x) (a.x.hubs + 1) 0 (a.levels - 1) u).part) f ∙ sym (ap (λ (d : Answered). d.part) e);
+      s_after = c.hub_reader.ensures.s_after ∙ ap (λ (u : List ℕ). (hub_reader a.text.now a.left (with_hub a.x) (a.x.hubs + 1) 0 (a.levels - 1) u).tables) f ∙ sym (ap (λ (d : Answered). d.tables) e);
+    }
 
 pub port_reader-returns-in-Close : goal.port_reader-returns-in-Close
 port_reader-returns-in-Close t c =
     let a = c.args in
     let e = port_close a.text.now a.left a.kind a.line a.x a.g a.q a.levels a.s.now c.in-Close.is in
-    (sym (ap (λ (d : Answered). d.part) e), sym (ap (λ (d : Answered). d.tables) e))
+    record { value = sym (ap (λ (d : Answered). d.part) e); s_after = sym (ap (λ (d : Answered). d.tables) e) }
 
 pub port_reader-returns-in-Other : goal.port_reader-returns-in-Other
 port_reader-returns-in-Other t c =
     let a = c.args in
     let e = port_other a.text.now a.left a.kind a.line a.x a.g a.q a.levels a.s.now c.in-Other.is in
-    (sym (ap (λ (d : Answered). d.part) e), sym (ap (λ (d : Answered). d.tables) e))
+    record { value = sym (ap (λ (d : Answered). d.part) e); s_after = sym (ap (λ (d : Answered). d.tables) e) }

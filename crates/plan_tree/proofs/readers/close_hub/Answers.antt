@@ -5,7 +5,7 @@ use Rattle.plan_tree.specs.Tables.{put_ports}
 use Rattle.plan_tree.proofs.readers.close_hub.Goals as goal
 
 pub returns-then-q-eq0 : goal.returns-then-q-eq0
-returns-then-q-eq0 c = (rw (eq-eqb _ _ c.if-q-eq0.true), rw (eq-eqb _ _ c.if-q-eq0.true))
+returns-then-q-eq0 c = record { value = rw (eq-eqb _ _ c.if-q-eq0.true); s_after = rw (eq-eqb _ _ c.if-q-eq0.true) }
 
 pub returns : goal.returns
 unfolding put_ports
