@@ -6,16 +6,19 @@ use Rattle.text_run.proofs.log_fits.Goals as goal
 pub returns-then-holds_any : goal.returns-then-holds_any
 returns-then-holds_any c =
     let a = c.args in
-    large_room a.text.now a.buffer.now (c.holds_any.ensures c.if-holds_any.true)
+    let found = large_room a.text.now a.buffer.now (c.holds_any.ensures c.if-holds_any.true) in
+    record { value = found.0; buffer_unchanged = found.1 }
 
 pub returns-in-Behind : goal.returns-in-Behind
 returns-in-Behind c =
     let a = c.args in
     let p = c.pass.ensures in
-    found_room a.text.now _ a.buffer.now p.0 p.1.1.0 c.in-Behind.field-0 c.in-Behind.is
+    let found = found_room a.text.now _ a.buffer.now p.value p.buffer_after c.in-Behind.field-0 c.in-Behind.is in
+    record { value = found.0; buffer_unchanged = found.1 }
 
 pub returns-in-Short : goal.returns-in-Short
 returns-in-Short c =
     let a = c.args in
     let p = c.pass.ensures in
-    found_short a.text.now _ a.buffer.now p.0 p.1.1.0 c.in-Short.is
+    let found = found_short a.text.now _ a.buffer.now p.value p.buffer_after c.in-Short.is in
+    record { value = found.0; buffer_unchanged = found.1 }

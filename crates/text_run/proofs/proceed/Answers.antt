@@ -5,5 +5,5 @@ use Rattle.text_run.proofs.proceed.Goals as goal
 
 pub returns : goal.returns
 returns c =
-    let l = c.UNKNOWN-Line-of.ensures in
+    let l = c.line_of-put.ensures in
     (c.behind_line.ensures ∙ ap (went_by c.args.ended) l.0, l.1)

@@ -7,10 +7,10 @@ pub returns-in-Behind : goal.returns-in-Behind
 returns-in-Behind c =
     let a = c.args in
     let p = c.pass.ensures in
-    let w = all_of_it a.text.now a.s.now a.out.now (omega (arith, c.pass-arg-3-1.given.0.1)) p.0 c.in-Behind.end c.in-Behind.is p.1.1.0 in
-    (omega (arith, w.0), (w.1, (p.1.1.1, p.1.0)))
+    let w = all_of_it a.text.now a.s.now a.out.now (omega (arith, c.told-out)) p.value c.in-Behind.end c.in-Behind.is p.buffer_after in
+    record { value = omega (arith, w.0); out_after = w.1; plan_after = p.plan_after; s_after = p.s_after }
 
 pub returns-in-Short : goal.returns-in-Short
 returns-in-Short c =
     let a = c.args in
-    absurd (never_short a.text.now a.s.now a.out.now (omega (arith, c.pass-arg-3-1.given.0.1)) c.pass.ensures.value c.in-Short.is)
+    absurd (never_short a.text.now a.s.now a.out.now (omega (arith, c.told-out)) c.pass.ensures.value c.in-Short.is)
