@@ -8,5 +8,7 @@ pub returns : goal.returns
 returns c =
     let a = c.args in
     let e = c.start-from.ensures.s_value in
-    chosen a.p.now a.high a.s.now (c.walk-t.ensures.value ∙ sym (ap (λ (d : Turned). d.turn) e))
-    (c.walk-t.ensures.s_after ∙ sym (ap (λ (d : Turned). d.cells) e)) c.settle.ensures
+    let d =
+    chosen a.p.now a.high a.s.now (c.walk-t.ensures.value ∙ sym (ap (λ (w : Turned). w.turn) e))
+    (c.walk-t.ensures.s_after ∙ sym (ap (λ (w : Turned). w.cells) e)) c.settle.ensures in
+    record { value = d.0; s_after = d.1 }

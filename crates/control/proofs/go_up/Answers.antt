@@ -9,28 +9,24 @@ use Rattle.control.proofs.go_up.Goals as goal
 
 pub returns-then-h-lt1 : goal.returns-then-h-lt1
 returns-then-h-lt1 c =
-    let a = c.args in (
-      (looked (up_none a.high a.h a.q a.s.now (omega arith))).0,
-      (looked (up_none a.high a.h a.q a.s.now (omega arith))).1,
-    )
+    let a = c.args in
+    let e = looked (up_none a.high a.h a.q a.s.now (omega arith)) in
+    record { value = e.0; s_after = e.1 }
 
 pub returns-then-h-gt-MOST_HUBS : goal.returns-then-h-gt-MOST_HUBS
 returns-then-h-gt-MOST_HUBS c =
-    let a = c.args in (
-      (looked (up_beyond a.high a.h a.q a.s.now (omega arith) (omega arith))).0,
-      (looked (up_beyond a.high a.h a.q a.s.now (omega arith) (omega arith))).1,
-    )
+    let a = c.args in
+    let e = looked (up_beyond a.high a.h a.q a.s.now (omega arith) (omega arith)) in
+    record { value = e.0; s_after = e.1 }
 
 pub returns-then-q-gt-MOST_PORTS : goal.returns-then-q-gt-MOST_PORTS
 returns-then-q-gt-MOST_PORTS c =
-    let a = c.args in (
-      (looked (up_no_port a.high a.h a.q a.s.now (omega arith) (omega arith) (omega arith))).0,
-      (looked (up_no_port a.high a.h a.q a.s.now (omega arith) (omega arith) (omega arith))).1,
-    )
+    let a = c.args in
+    let e = looked (up_no_port a.high a.h a.q a.s.now (omega arith) (omega arith) (omega arith)) in
+    record { value = e.0; s_after = e.1 }
 
 pub returns : goal.returns
 returns c =
-    let a = c.args in (
-      (looked (up-passes a.high a.h a.q a.s.now (omega arith) (omega arith) (omega arith))).0,
-      c.point.ensures ∙ ap (λ (n : ℕ). set a.s.now (pointer_cell a.high a.h) n) (omega arith) ∙ (looked (up-passes a.high a.h a.q a.s.now (omega arith) (omega arith) (omega arith))).1,
-    )
+    let a = c.args in
+    let e = looked (up-passes a.high a.h a.q a.s.now (omega arith) (omega arith) (omega arith)) in
+    record { value = e.0; s_after = c.point.ensures ∙ ap (λ (n : ℕ). set a.s.now (pointer_cell a.high a.h) n) (omega arith) ∙ e.1 }

@@ -9,12 +9,13 @@ pub returns-then-g-eq1 : goal.returns-then-g-eq1
 returns-then-g-eq1 c =
     let a = c.args in
     let e = looked (root_round a.p.now a.high a.g a.s.now (omega arith)) in
-    (e.0, c.point.ensures ∙ e.1)
+    record { value = e.0; s_after = c.point.ensures ∙ e.1 }
 
 pub returns : goal.returns
 returns c =
     let a = c.args in
-    let e = handed-up a.p.now a.high a.g a.s.now c.if-g-eq1.false in (
-      c.go_up.ensures.value ∙ sym (ap (λ (w : Looked). w.look) e),
-      c.go_up.ensures.s_after ∙ sym (ap (λ (w : Looked). w.cells) e),
-    )
+    let e = handed-up a.p.now a.high a.g a.s.now c.if-g-eq1.false in
+    record {
+      value = c.go_up.ensures.value ∙ sym (ap (λ (w : Looked). w.look) e);
+      s_after = c.go_up.ensures.s_after ∙ sym (ap (λ (w : Looked). w.cells) e);
+    }

@@ -9,7 +9,7 @@ pub overflow_add-result-2 : goal.overflow_add-result-2
 overflow_add-result-2 c = record { fits = omega (arith, byte_below_2 c.args.high) }
 
 pub returns : goal.returns
-returns c = (
-  ap (hub_cell c.args.g) (byte_digit c.args.high),
-  omega (arith, byte_below_2 c.args.high),
-)
+returns c = record {
+  value = ap (hub_cell c.args.g) (byte_digit c.args.high);
+  upper_bound = omega (arith, byte_below_2 c.args.high);
+}

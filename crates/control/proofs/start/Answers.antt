@@ -11,19 +11,21 @@ use Rattle.control.proofs.start.Goals as goal
 
 pub returns-then-s-high : goal.returns-then-s-high
 returns-then-s-high c =
-    let a = c.args in (
-      class_kept a.p.now a.high a.s.now (c.if-s-high.true ∙ byte_digit a.high)
+    let a = c.args in
+    record {
+      s_value = class_kept a.p.now a.high a.s.now (c.if-s-high.true ∙ byte_digit a.high)
           ∙ ap₂ (λ (g n : ℕ). walk_by a.p.now a.high most_looks g n a.s.now) (omega (arith, ap (λ (t : Turn). t.hub) c.nobody.ensures))
-          (omega (arith, ap (λ (t : Turn). t.moves) c.nobody.ensures)),
-      omega (arith, ap (λ (t : Turn). t.moves) c.nobody.ensures),
-    )
+          (omega (arith, ap (λ (t : Turn). t.moves) c.nobody.ensures));
+      moves_bound = omega (arith, ap (λ (t : Turn). t.moves) c.nobody.ensures);
+    }
 
 pub returns : goal.returns
 returns c =
-    let a = c.args in (
-      class_changed a.p.now a.high a.s.now (λ f. c.if-s-high.false (f ∙ sym (byte_digit a.high))) c.nearest-hub.result
+    let a = c.args in
+    record {
+      s_value = class_changed a.p.now a.high a.s.now (λ f. c.if-s-high.false (f ∙ sym (byte_digit a.high))) c.nearest-hub.result
           c.climb_to-moves.result c.nearest-hub.ensures (omega (arith, c.climb_to-moves.ensures.value))
           ∙ ap₂ (λ (g n : ℕ). walk_by a.p.now a.high most_looks g n a.s.now) (omega (arith, ap (λ (t : Turn). t.hub) c.nobody-2.ensures))
-          (omega (arith, ap (λ (t : Turn). t.moves) c.nobody-2.ensures)),
-      omega (arith, ap (λ (t : Turn). t.moves) c.nobody-2.ensures, c.climb_to-moves.ensures.upper_bound),
-    )
+          (omega (arith, ap (λ (t : Turn). t.moves) c.nobody-2.ensures));
+      moves_bound = omega (arith, ap (λ (t : Turn). t.moves) c.nobody-2.ensures, c.climb_to-moves.ensures.upper_bound);
+    }
