@@ -1,6 +1,7 @@
 #!/usr/bin/env python3
 """Takes the ending _lem from fields, from a constructor and from a worked case: tools/port_names.py gave it to all that shared a
-function's name, and only lemmas want it. Run once, behind port_names.py.
+function's name, and only lemmas want it. And takes the dash from definitions and fields of specs/, where only lemmas have one.
+Run once, behind port_names.py.
 """
 import os
 import re
@@ -10,8 +11,13 @@ FIELDS = "first_row node_port in_time waits_told frame_low interrupt_low next_tu
 # the constructor of InRange, and a worked case of trials
 WHOLE = {"given_up_lem": "given_up", "made_normal_lem": "made_normal"}
 
+DASHED = """down-and-up first-line found-turned handed-up long-answered m13-lines more-reserved not-due not-put-up three-levels
+three-levels-by three-rounds times-behind turning-down turning-slips two-lines two-rounds worked-looks worked-runs""".split()
+
 
 def turn(p, t):
+    for n in DASHED:
+        t = re.sub(rf"(?<![\w-]){n}(?![\w-])", n.replace("-", "_"), t) if not p.endswith(".rt") else t
     for f in FIELDS:
         t = re.sub(rf"(?<![A-Z]\w)\.{f}_lem\b", f".{f}", t)
         t = re.sub(rf"([{{;]\s*){f}_lem =", rf"\1{f} =", t)

@@ -80,7 +80,7 @@ module _ (text : List ℕ) (nodes hubs at line : ℕ) (t : TakenAs text nodes hu
         record {
           soon = subst (λ (h : Hub Control). h.core.clock ≤ last_time) (sym run.hub) (clock_soon p (control p) (calls_of past));
           late = omega arith;
-          not-due = due_late p drawn.figures (core_of p s)
+          not_due = due_late p drawn.figures (core_of p s)
               (subst (λ (h : Hub Control). Sound p h.core) (sym run.hub)
               (sound p drawn.figures (control p) (control_follows p drawn) drawn.some_node (calls_of past)));
         }

@@ -65,7 +65,7 @@ pub record Admits (p : Plan) (past : List Entry) (s : Core) : Type 0 where
 pub record OnTime (p : Plan) (s : Core) (t : ℕ) : Type 0 where
   pub soon : t ≤ last_time
   pub late : s.clock ≤ t
-  pub not-due : (d : ℕ) → due p s ≡ at d → t ≤ d
+  pub not_due : (d : ℕ) → due p s ≡ at d → t ≤ d
 
 -- what the reservation r in force asks of a high request: where n is at least 1, b is at most its b; and in a strict plan n is at least 1
 pub record Allows (p : Plan) (r : Share) (c : Class) (b : ℕ) : Type 0 where

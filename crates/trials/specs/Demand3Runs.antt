@@ -141,8 +141,8 @@ at_the_limit =
 
 -- Nodes 3, 4, 1 and 2 have a packet each in this order, three times, from t on. Behind
 -- its first one node 2 asks normal, and high only as the next turn comes
-abbrev pub three-rounds : ℕ → List Entry
-three-rounds t =
+abbrev pub three_rounds : ℕ → List Entry
+three_rounds t =
     step 300000 ⟶ grant t 3 high (t + 5000) 1
     ∷ ask high t 3 4000 ⟶ taken
     ∷ step 300000 ⟶ grant (t + 5000) 4 high (t + 8000) 1
@@ -196,7 +196,7 @@ over_the_start =
     ∷ ask high 200000 1 12000 ⟶ taken
     ∷ ask high 205000 3 4000 ⟶ taken
     ∷ ask high 205000 4 2000 ⟶ taken
-    ∷ three-rounds 212999
+    ∷ three_rounds 212999
     ++ (step 300000 ⟶ rest 299999 1 ∷ step 300000 ⟶ quiet ∷ []))
     (record {
       packets = 3;

@@ -2,7 +2,7 @@
 use mathlib.Core.Path.{sym, ap, ◌∙◌}
 use native.Mathlib.Omega.{arith}
 use Rattle.cells.specs.Turns.{Looked}
-use Rattle.control.proofs.Looks.{looked, root_round, handed-up}
+use Rattle.control.proofs.Looks.{looked, root_round, handed_up}
 use Rattle.control.proofs.hand_up.Goals as goal
 
 pub returns-then-g-eq1 : goal.returns-then-g-eq1
@@ -14,7 +14,7 @@ returns-then-g-eq1 c =
 pub returns : goal.returns
 returns c =
     let a = c.args in
-    let e = handed-up a.p.now a.high a.g a.s.now c.if-g-eq1.false in
+    let e = handed_up a.p.now a.high a.g a.s.now c.if-g-eq1.false in
     record {
       value = c.go_up.ensures.value ∙ sym (ap (λ (w : Looked). w.look) e);
       s_after = c.go_up.ensures.s_after ∙ sym (ap (λ (w : Looked). w.cells) e);

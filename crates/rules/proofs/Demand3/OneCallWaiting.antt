@@ -20,7 +20,7 @@ use Rattle.rules.specs.Run.{Entry}
 use Rattle.rules.proofs.Laws.Passes.{Which, which, yes', no', put_other}
 use Rattle.rules.proofs.Flat.Follows.{Follows}
 use Rattle.rules.proofs.Laws.Frames.{started, not_started, not_ended, next_start}
-use Rattle.rules.proofs.Core.CallCases.{Event, not-due, Course, refusal, event, quietly, granting, resting as rested}
+use Rattle.rules.proofs.Core.CallCases.{Event, not_due, Course, refusal, event, quietly, granting, resting as rested}
 use Rattle.rules.proofs.Core.Instants.{Instant, line_ends, one_counts, one_held, no_instant, instant, Advanced, across, inside, advanced}
 use Rattle.rules.proofs.Core.Requests.{none_standing, reclassed_high, counts-stands}
 use Rattle.rules.proofs.Flat.Turns.{Pointed, pointed_rest, node_counts, pointed_turn}
@@ -166,7 +166,7 @@ module _ (p : Plan) (fig : Figures p) (M : Machine) (follows : Follows p M) (k f
     keep_event call e a now after (no' b) =
         running
         (event_enters call (time call) (ltb-false (time call) (f * p.frame) b)
-        (not_behind p s (f * p.frame + p.interrupt) (time call) waiting_due (not-due p s e a)) (advanced p (time call) s) now after)
+        (not_behind p s (f * p.frame + p.interrupt) (time call) waiting_due (not_due p s e a)) (advanced p (time call) s) now after)
 
     -- the turn's node counts in the class sought
     some : (d : ℕ) (c : Class) → sought p (advance p d s) ≡ class c → any p.nodes (counts_in c (advance p d s)) ≡ true

@@ -16,7 +16,7 @@ use Rattle.rules.proofs.Flat.Follows.{Follows}
 use Rattle.rules.proofs.Core.Instants.{Instant, line_ends, one_counts, one_held, no_instant, instant}
 use Rattle.rules.proofs.Core.Sound.{Sound}
 use Rattle.rules.proofs.Core.ClockAdvance.{advance_clock}
-use Rattle.rules.proofs.Core.CallCases.{not-due, Course, refusal, event, quietly, granting, resting}
+use Rattle.rules.proofs.Core.CallCases.{not_due, Course, refusal, event, quietly, granting, resting}
 use Rattle.rules.proofs.Core.AlwaysSound.{Good}
 use Rattle.rules.proofs.Core.AlwaysTold.{event_clock}
 
@@ -64,7 +64,7 @@ module _ (p : Plan) (fig : Figures p) (M : Machine) (follows : Follows p M) (h :
   one_start (refusal call n e) k b c r = omega arith
   one_start (event call e a) k b c r =
       rw (event_clock e (advance p (time call) h.core) ∙ advance_clock p (time call) h.core)
-      (before_instant p fig h.core ok.sound k b c r (time call) (not-due p h.core e a))
+      (before_instant p fig h.core ok.sound k b c r (time call) (not_due p h.core e a))
   one_start (quietly t i n) k b c r = omega arith
   one_start (granting t d x i e l n) k b c r = rw (advance_clock p d h.core) (at_instant p fig h.core ok.sound k b c r d e)
   one_start (resting t d i e l n) k b c r = rw (advance_clock p d h.core) (at_instant p fig h.core ok.sound k b c r d e)
