@@ -1,14 +1,12 @@
 -- `walk` meets its contract. The loop's invariant: the walk from the start is the walk from here, with the looks that are left.
 -- Each return is a law of Walks, by what the look answered. The measure is the looks that are left.
 use borrow.Author.Tests.{ltb-true, ltb-false}
-use mathlib.Core.Path.{◌≡◌, sym, ap, ◌∙◌}
+use mathlib.Core.Path.{sym, ap, ◌∙◌}
 use mathlib.Core.Logic.{⊎_elim}
-use Prim.Native.Nat.{ℕ, ◌+◌, ◌-◌}
+use Prim.Native.Nat.{ℕ}
 use native.Mathlib.Omega.{arith}
-use Rattle.rules.specs.Control.{most_looks}
-use Rattle.cells.specs.declared.Look.TheVariants.{Node, Pass, Round, Stop}
-use Rattle.cells.specs.Turns.{Turned, walk_by}
-use Rattle.control.proofs.Walks.{turned, stays, walk_over, walk_no_hub, walk_beyond, walk_grants, walk_passes, walk_rounds, walk_stops}
+use Rattle.cells.specs.Turns.{walk_by}
+use Rattle.control.proofs.Walks.{turned, walk_over, walk_no_hub, walk_beyond, walk_grants, walk_passes, walk_rounds, walk_stops}
 use Rattle.control.proofs.walk.Goals as goal
 
 pub loop-looks-init : goal.loop-looks-init

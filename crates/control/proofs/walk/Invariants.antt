@@ -1,5 +1,5 @@
 use mathlib.Core.Path.{◌≡◌}
-use Prim.Native.Nat.{◌+◌, ◌-◌, ◌≤◌}
+use Prim.Native.Nat.{◌+◌, ◌≤◌}
 use Rattle.rules.specs.Control.{most_looks}
 use Rattle.cells.specs.Turns.{walk_by}
 use Rattle.control.proofs.walk.Given as goal

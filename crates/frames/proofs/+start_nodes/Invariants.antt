@@ -1,4 +1,3 @@
-use Prim.Native.Nat.{◌-◌}
 use Rattle.frames.proofs.+start_nodes.Given as goal
 
 abbrev pub decreases-start_nodes : goal.decreases-start_nodes
