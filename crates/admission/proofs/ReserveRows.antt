@@ -9,7 +9,7 @@ use Rattle.rules.specs.Plan.{Plan}
 use Rattle.rules.specs.Drawn.{Within}
 use Rattle.rules.specs.Call.{reserve, until}
 use Rattle.rules.specs.Rows.{Row, Verdict, accept, refuse, first_row}
-use Rattle.rules.specs.Promises.{InRange, given_up_lem, packets}
+use Rattle.rules.specs.Promises.{InRange, given_up, packets}
 use Rattle.rules.proofs.Laws.Lengths.{longest-up}
 use Rattle.rules.proofs.Core.CallCases.{Clear, clear}
 use Rattle.rules.proofs.Core.RefusalNumbers.{CallNumber, first-has}
@@ -23,7 +23,7 @@ use Rattle.admission.specs.Share.{limit_rows, share_rows, share_row_by}
 
 -- row 15 of a reserve
 pub in_range_lem : {p : Plan} {n b : ℕ} → InRange p n b → b < half
-in_range_lem given_up_lem = omega arith
+in_range_lem given_up = omega arith
 in_range_lem {p} (packets n b some low up) = omega (arith, longest-up p.framing)
 
 -- its node is one of the plan, and its figures fit a half of a cell each

@@ -37,7 +37,7 @@ module _ (B : Beside) (P : List ℕ) where
   latest (hub.stepping {s = s} more t r z p) =
       record { cells = s; calls = more; did = λ b. stepping t r z (B.watch P s (entry (step t) (step_answer r)) b) p refl }
 
-  cells_after_lem : {past : List Entry} {s z : List ℕ} → Calls P past s → (more : List Entry) → Calls P (more ++ past) z → z ≡ cells_after P s more
+  cells_after_lem : {past : List Entry} {s : List ℕ} → Calls P past s → (more : List Entry) {z : List ℕ} → Calls P (more ++ past) z → z ≡ cells_after P s more
   unfolding cells_after
   cells_after_lem before_these [] made = same-cells P before_these made
   cells_after_lem before_these (e ∷ more) made =

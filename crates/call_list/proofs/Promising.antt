@@ -67,5 +67,5 @@ module _ (P s cs ans : List ℕ) where
 
       waits_told_lem : ((before : List Entry) (r : List ℕ) → Calls P before r → Demands P (plan_of P) before r) → (past : List Entry) → Calls P past s
           → (i : ℕ) → i < count_of cs → WaitIn (plan_of P) (seven_at (list_from P cs 0 (count_of cs) s ans).answers i) (entries cs (list_from P cs 0 (count_of cs) s ans).answers i ++ past)
-      waits_told_lem all past before i l =
-          list_waits P cs (plan_of P) past all 0 (count_of cs) s ans (omega (arith, (ready cs ans (sym e ∙ f)).room)) before i (omega arith) (omega arith)
+      waits_told_lem all past made i l =
+          list_waits P cs (plan_of P) past all 0 (count_of cs) s ans (omega (arith, (ready cs ans (sym e ∙ f)).room)) made i (omega arith) (omega arith)

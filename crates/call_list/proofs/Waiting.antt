@@ -84,7 +84,7 @@ module _ (P cs : List ℕ) where
     list_waits i zero s ans l made j low up = absurd (omega arith)
     list_waits i (suc n) s ans l made j low up =
         ⊎_elim here
-        (λ later. list_waits (i + 1) n o.cells put (rw (length-put i (told_of o) ans) (omega arith))
+        (λ (later : i < j). list_waits (i + 1) n o.cells put (rw (length-put i (told_of o) ans) (omega arith))
         (rw (entries-more P cs s ans i (omega arith)) (one_more P made (call_at cs i))) j (omega arith) (omega arith))
         (eq-or-lt_of_le low)
       where

@@ -83,9 +83,9 @@ module _ (P : List ℕ) (high : Bool) (g : ℕ) (s : List ℕ) where
   unfolding hand_up_by
   root_round e = simp (eq-eqb _ _ e)
 
-  pub handed-up : (g ≡ 1 → ⊥) → hand_up_by P high g s ≡ up_by high (get_or P (plan.parent_cell g) 0) (get_or P (plan.place_cell g) 0) s
+  pub handed_up : (g ≡ 1 → ⊥) → hand_up_by P high g s ≡ up_by high (get_or P (plan.parent_cell g) 0) (get_or P (plan.place_cell g) 0) s
   unfolding hand_up_by
-  handed-up lower = simp (ne_eqb _ _ lower)
+  handed_up lower = simp (ne_eqb _ _ lower)
 
   -- the search that a look makes, from the cell where the hub's mask stands
   module _ (at : ℕ) (e : at ≡ mask_cell high g) where

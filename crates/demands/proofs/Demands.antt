@@ -100,7 +100,7 @@ module _ (P : List ℕ) (R : Ready P) (past : List Entry) (m : Made P past (made
   wait_told t d k class end moves wait e =
       let before = (watched p (control p) calls).past in
       subst (WaitTold p k (class_numbered class) d wait) (kept.waits.unaffected ∙ sym same)
-      ((drawn_promises p R.drawn (step t ∷ calls)).waits.waits_told_lem [] t d k (class_numbered class) end moves wait before
+      ((drawn_promises p R.drawn (step t ∷ calls)).waits.waits_told [] t d k (class_numbered class) end moves wait before
       (next-entry P R (step t) calls
       ∙ (λ i. record { entry = record { call = step t; answer = step_answer (e i) }; wait = step_wait (e i) } ∷ before)))
 

@@ -64,7 +64,7 @@ pub record PlanDemands (text : List ℕ) : Type 0 where
   -- and to no line of one that is taken does a row apply
   pub taken_no_row : DrawnBy text → (n k : ℕ) → RowApplies (lines text) n k → ⊥
   -- the first line from above to which a row applies, then the first row, decides
-  pub first-line : (line number : ℕ) → RefusedAt text line number → DecidedBy text line number
+  pub first_line : (line number : ℕ) → RefusedAt text line number → DecidedBy text line number
   -- Request 8 of document 02: a text without the line `(strict)` is read as before that request,
   pub as_before_8 : has_strict text ≡ false → reading text ≡ reading_before8 text
   -- and one whose fourth line is no framing's either as document 01 alone has it (request 3)

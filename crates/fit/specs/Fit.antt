@@ -1,8 +1,8 @@
 -- "After a 17, tell the planner the smallest single change that would turn it into a grant."
-use Rattle.std.specs.Prelude.{ℕ, zero, suc, ◌+◌, ◌-◌, Bool, true, false, not, ◌&&◌, ◌||◌, List, eqb, ltb, leb}
+use Rattle.std.specs.Prelude.{ℕ, zero, suc, ◌+◌, ◌-◌, Bool, not, ◌&&◌, ◌||◌, List, eqb, ltb, leb}
 use Rattle.rules.specs.Choice.{if◌then◌else◌, put}
 use Rattle.rules.specs.Plan.{Plan, shortest}
-use Rattle.rules.specs.Core.{Core, Share, nothing_reserved}
+use Rattle.rules.specs.Core.{Core, nothing_reserved}
 use Rattle.rules.specs.Rows.{load, loads}
 use Rattle.cells.specs.Decode.{plan_in, core_of}
 use Rattle.offers.specs.Offers.{Offer, answer_to}

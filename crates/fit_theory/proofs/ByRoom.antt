@@ -68,7 +68,7 @@ module _ (p : Plan) (s : Core) (room : ℕ) (o : Offer) where
       record {
         possible = omega arith;
         fits = fits_then (packets m) l.passed;
-        before = λ e. elim e [
+        before = λ e. elim e as (λ d. Possible p s o d → Before p s d (packets m) → Fails d) [
           | packets n ↦ λ w h. fails_then (packets n) (l.above n (omega arith) (omega arith))
           | bits b ↦ λ w h. absurd h
           | release j ↦ λ w h. absurd h
@@ -80,7 +80,7 @@ module _ (p : Plan) (s : Core) (room : ℕ) (o : Offer) where
       record {
         possible = omega arith;
         fits = fits_then (bits b) l.passed;
-        before = λ e. elim e [
+        before = λ e. elim e as (λ d. Possible p s o d → Before p s d (bits b) → Fails d) [
           | packets m ↦ λ w h. ns m w
           | bits a ↦ λ w h. fails_then (bits a) (l.above a (omega arith) (omega arith))
           | release j ↦ λ w h. absurd h
@@ -99,7 +99,7 @@ module _ (p : Plan) (s : Core) (room : ℕ) (o : Offer) where
       record {
         possible = possible;
         fits = fits_then (release j) (sym (enough_is j possible) ∙ r.enough);
-        before = λ e. elim e [
+        before = λ e. elim e as (λ d. Possible p s o d → Before p s d (release j) → Fails d) [
           | packets m ↦ λ w h. ns m w
           | bits b ↦ λ w h. bs b w
           | release i ↦ λ w h. fails_then (release i) (sym (enough_is i w) ∙ unless (enough i) (before-cheapest r i w.0 h))
@@ -114,7 +114,7 @@ module _ (p : Plan) (s : Core) (room : ℕ) (o : Offer) where
   first_found {j} (Found.nothing ns) (Found.nothing bs) (Chosen.some r) =
       rw (ne_eqb j 0 (omega (arith, r.node.low))) (refl, first_release (no_packets ns) (no_bits bs) r)
   first_found (Found.nothing ns) (Found.nothing bs) (Chosen.nothing js) =
-      (refl, λ d. elim d [ packets m ↦ no_packets ns m | bits b ↦ no_bits bs b | release j ↦ no_release js j ])
+      (refl, λ d. elim d as (λ k. Possible p s o k → Fails k) [ packets m ↦ no_packets ns m | bits b ↦ no_bits bs b | release j ↦ no_release js j ])
 
   pub by_room : ByRoom p s room o
   unfolding fit_within

@@ -30,13 +30,13 @@ module _ (p : Plan) (s : Core) (holds : Holds p (loads p s.latest)) (k : ℕ) (w
   pub room_behind : (j : ℕ) → Within p.nodes j → (j ≡ k → ⊥) → (z : Core) → z.latest ≡ put s.latest j nothing_reserved
       → frame_room p z k ≡ frame_room p s k + cost p s j
   room_behind j v other z e =
-      let given_up_lem = put s.latest j nothing_reserved in
-      let own : load p (given_up_lem k) ≡ load p (s.latest k) = ap (load p) (put_other s.latest j nothing_reserved k (λ f. other (sym f))) in
+      let freed = put s.latest j nothing_reserved in
+      let own : load p (freed k) ≡ load p (s.latest k) = ap (load p) (put_other s.latest j nothing_reserved k (λ f. other (sym f))) in
       rw e
       (omega (
         arith,
         own,
-        loads-put p given_up_lem k nothing_reserved w,
+        loads-put p freed k nothing_reserved w,
         loads-put p s.latest j nothing_reserved v,
         loads-put p s.latest k nothing_reserved w,
       ))

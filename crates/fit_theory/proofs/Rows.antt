@@ -1,7 +1,7 @@
 -- In every hub that a run reaches, at a time that 11 and 12 allow: an offer that was answered 17, so changed, is answered by its room.
 use Prim.Native.Nat.{ℕ, ◌≤◌, ◌<◌}
 use mathlib.Core.Path.{◌≡◌, refl, sym, ap, subst, ◌∙◌}
-use mathlib.Core.List.{List, [], ◌∷◌, ◌++◌}
+use mathlib.Core.List.{List, [], ◌∷◌}
 use native.Mathlib.Omega.{arith}
 use borrow.Author.Tests.{leb-true, leb-false}
 use lib.Dec.{leb}
@@ -11,7 +11,7 @@ use Rattle.rules.specs.Drawn.{Within}
 use Rattle.rules.specs.Call.{Call, reserve, until, time, taken}
 use Rattle.rules.specs.Core.{Core, Share, nothing_reserved, advance}
 use Rattle.rules.specs.Rows.{Row, load, loads, row17, change}
-use Rattle.rules.specs.Promises.{Holds, InRange, given_up_lem}
+use Rattle.rules.specs.Promises.{Holds, InRange, given_up}
 use Rattle.rules.specs.Machine.{Machine, Hub, Outcome, perform}
 use Rattle.rules.specs.Control.{Control, control}
 use Rattle.rules.specs.Run.{Entry}
@@ -60,14 +60,14 @@ module _ (p : Plan) (k n b : ℕ) (free : Clear (limit_rows p k n b)) where
   fewer_pass m some less = (free.0, ((passed14 m).1 (omega (arith, (passed14 n).0 free.1.0)), ((passed15r p m b).1 (go in_range_lem less), tt)))
     where
       go : {n b : ℕ} → InRange p n b → m < n → InRange p m b
-      go given_up_lem l = absurd (omega arith)
+      go given_up l = absurd (omega arith)
       go (InRange.packets n b _ low up) l = InRange.packets m b some low up
 
   shorter_pass : (c : ℕ) → shortest p ≤ c → c < b → Clear (limit_rows p k n c)
   shorter_pass c low less = (free.0, (free.1.0, ((passed15r p n c).1 (go in_range_lem less), tt)))
     where
       go : {n b : ℕ} → InRange p n b → c < b → InRange p n c
-      go given_up_lem l = absurd (omega arith)
+      go given_up l = absurd (omega arith)
       go (InRange.packets n b some _ up) l = InRange.packets n c some low (omega arith)
 
 -- an answer that is by what a reserve takes and what there is for it
@@ -113,13 +113,13 @@ module _ (P : List ℕ) (t : ℕ) (s : List ℕ) (h : Standing P t s) (o : Offer
         }
 
 -- the offer of nothing for a node
-abbrev given_up : ℕ → Offer
-given_up j = record { node = j; packets = 0; bits = 0 }
+abbrev offer_given_up : ℕ → Offer
+offer_given_up j = record { node = j; packets = 0; bits = 0 }
 
 -- it is taken, whatever is reserved
-gives_up : (P : List ℕ) (t : ℕ) (s : List ℕ) → Standing P t s → (j : ℕ) → Within (plan_in P).nodes j → answer_to P t s (given_up j) ≡ 0
+gives_up : (P : List ℕ) (t : ℕ) (s : List ℕ) → Standing P t s → (j : ℕ) → Within (plan_in P).nodes j → answer_to P t s (offer_given_up j) ≡ 0
 gives_up P t s h j w =
-    (by_its_room P t s h (given_up j) ((passed13 (plan_in P) j).1 w, ((passed14 0).1 (omega arith), ((passed15r (plan_in P) 0 0).1 given_up_lem, tt)))
+    (by_its_room P t s h (offer_given_up j) ((passed13 (plan_in P) j).1 w, ((passed14 0).1 (omega arith), ((passed15r (plan_in P) 0 0).1 given_up, tt)))
     ).fits (omega arith)
 
 module _ (text : List ℕ) (nodes hubs at line : ℕ) (plan : TakenAs text nodes hubs at line) where

@@ -38,7 +38,7 @@ use Rattle.fit_theory.proofs.Fitting.{in_lists}
 pub record Computed : Type 0 where
   pub taken : TakenAs plan01 4 2 100 13
   pub answered : (ran fitting P01 worked).items ≡ worked
-  pub long-answered : (ran fitting (reading plan5).tables long).items ≡ long
+  pub long_answered : (ran fitting (reading plan5).tables long).items ≡ long
 
 computed : Computed
 unfolding
@@ -50,7 +50,7 @@ unfolding
     down_by take_by up_by hand_up_by found_by look_by after_look walk_by nearer_by nearest_by walked settled choose_by
     rows_by row_by change_by event_by busy_until resting grant_by rest_by handled_by step_due step_by step_answer event_left perform_by
     ran largest_below cheapest fit_within fit_for
-computed = record { taken = refl; answered = refl; long-answered = refl }
+computed = record { taken = refl; answered = refl; long_answered = refl }
 
 worked_list : Extended fitting P01 worked tt (ran fitting P01 worked).cells
 worked_list = extended_by fitting P01 worked computed.answered
@@ -60,7 +60,7 @@ as_worked =
     record {
       taken = computed.taken;
       answered = computed.answered;
-      long-answered = computed.long-answered;
+      long_answered = computed.long_answered;
       list = worked_list;
       in_lists = in_lists plan01 4 2 100 13 computed.taken worked_list;
     }

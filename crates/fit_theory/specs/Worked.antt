@@ -82,7 +82,7 @@ pub record Worked : Type 0 where
   pub taken : TakenAs plan01 4 2 100 13
   -- made by computing, the calls are answered as they stand there
   pub answered : (ran fitting P01 worked).items ≡ worked
-  pub long-answered : (ran fitting (reading plan5).tables long).items ≡ long
+  pub long_answered : (ran fitting (reading plan5).tables long).items ≡ long
   -- so it is such a list, and all that is promised holds of it
   pub list : Extended fitting P01 worked tt (ran fitting P01 worked).cells
   pub in_lists : InLists P01 (plan_of P01) worked (ran fitting P01 worked).cells

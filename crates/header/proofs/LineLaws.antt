@@ -1,12 +1,11 @@
 -- A line of the header, by what each call found. The code's proofs cite these, a case each.
 use Prim.Native.Nat.{ℕ, ◌≤◌}
 use mathlib.Core.Path.{◌≡◌}
-use mathlib.Core.Bool.{Bool, true, false, ◌&&◌}
+use mathlib.Core.Bool.{false, ◌&&◌}
 use native.Mathlib.Omega.{arith}
 use mathlib.Core.List.{List}
 use lib.Dec.{leb}
 use borrow.Author.Tests.{leb-true}
-use Rattle.rules.specs.Choice.{if◌then◌else◌}
 use Rattle.rules.proofs.Laws.Passes.{Which, which, yes', no', and_both}
 use Rattle.rules.proofs.Laws.Clash.{clash}
 use Rattle.text.specs.Line.{next_line}
@@ -21,9 +20,7 @@ use Rattle.plan_tree.specs.declared.Kind.{Kind}
 use Rattle.plan_tree.specs.declared.Kind.TheVariants.{Hub}
 use Rattle.plan_tree.specs.declared.Part.TheVariants.{Read, Stopped}
 use Rattle.plan_tree.specs.Kind.{kind_of, is_hub}
-use Rattle.header.specs.declared.Figure.{Figure}
 use Rattle.header.specs.declared.Figure.TheVariants.{Got, Not}
-use Rattle.header.specs.declared.Optional.{Optional}
 use Rattle.header.specs.declared.Optional.TheVariants.{Says, Absent}
 use Rattle.header.specs.Lines.{in_range, figure_at, figure_of, figure_in, optional_at, root_at}
 

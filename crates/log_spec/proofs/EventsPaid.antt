@@ -77,6 +77,7 @@ module _ (p : Plan) (drawn : Drawn p) where
       by_course : {o : Outcome Control} → Course p (control p) (reached calls) (step t) o → perform p (control p) (step t) (reached calls) ≡ o
           → Paid 0 (reached calls) (behind p n t (with_times calls times) o)
       by_course (refusal c m a) q = nothing_logged calls times
+      by_course (course.event u v a) q = elim v [ ]
       by_course (quietly u j a) q = nothing_logged calls times
       by_course (course.granting u d c i e l b) q = one_line _ _ _ (grant_pays p drawn calls t d i e l c b _ (sub-le d _)) (onward _ q _)
       by_course (course.resting u d i e l b) q =

@@ -85,8 +85,8 @@ module _ (p : Plan) (s : Core) (spent : budget p s ≤ 0) where
       let r = of_class high (s.request x.number) (and_both _ _ x.holds).0 in
       none-stands x.number x.within high r.0 r.1
 
-  not-due : (t : ℕ) → before (due p s) t ≡ false
-  not-due t = go (instant p s)
+  not_due : (t : ℕ) → before (due p s) t ≡ false
+  not_due t = go (instant p s)
     where
       go : {x : Due} → Instant p s x → before x t ≡ false
       go (line_ends e l) = let r : runs s.line ≡ 1 = ap runs l in absurd (omega arith)
@@ -119,7 +119,7 @@ module _ (p : Plan) (drawn : Drawn p) (t : ℕ) where
   unfolding steps
   spent_enough calls times i spent =
       (no_time_lost p drawn.figures (control p) (control_follows p drawn) drawn.some_node calls).quiet_there t i.late i.soon
-      (not-due p (reached calls).core spent t)
+      (not_due p (reached calls).core spent t)
 
   module _ (n : ℕ) (again : Enough n) (calls : List Call) (times : ℕ → ℕ) (i : InTime (reached calls).core t) (few : budget p (reached calls).core ≤ suc n) where
     abbrev here : Hub Control
@@ -138,6 +138,7 @@ module _ (p : Plan) (drawn : Drawn p) (t : ℕ) where
     by_course : {o : Outcome Control} → Course p (control p) here (step t) o → perform p (control p) (step t) here ≡ o
         → Quiet (behind p n t (record { hub = here; times = times }) o).left.hub
     by_course (refusal c m a) q = let r : accept ≡ refuse m = rw ((passed11 here.core t).1 i) at a in clash (cc)
+    by_course (course.event u v a) q = elim v [ ]
     by_course (quietly u j a) q = ap (λ (o : Outcome Control). o.answer) q
     by_course (course.granting u d c j a l b) q =
         let s = advance p d here.core in

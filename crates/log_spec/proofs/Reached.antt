@@ -55,7 +55,7 @@ module _ (p : Plan) where
     unfolding watched
     grant_told calls t s k c end moves wait a b =
         subst (λ (l : List Entry). WaitTold p k c s wait l) (unaffected p (control p) calls)
-        ((waits p drawn (step t ∷ calls)).waits_told_lem [] t s k c end moves wait (watched p (control p) calls).past
+        ((waits p drawn (step t ∷ calls)).waits_told [] t s k c end moves wait (watched p (control p) calls).past
         (λ i. record { entry = record { call = step t; answer = a i }; wait = b i } ∷ (watched p (control p) calls).past))
 
     module _ (t : ℕ) where
@@ -88,6 +88,7 @@ module _ (p : Plan) where
             → Stepped t calls (behind p n t w o)
         unfolding answer_line
         by_course (refusal x m a) q = nothing_more calls
+        by_course (course.event u v a) q = elim v [ ]
         by_course (quietly u j a) q = nothing_more calls
         by_course (course.granting u d c i e l b) q =
             let more = onward _ q in

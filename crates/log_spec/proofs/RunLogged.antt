@@ -104,6 +104,6 @@ module _ (text s buffer : List ℕ) where
   run_leaves =
       record {
         behind_the_last = λ nodes hubs at line e fit. ap (λ (w : Watched Control). w.hub) (taken_leaves nodes hubs at line e fit);
-        times-behind = λ nodes hubs at line e fit. ap (λ (w : Watched Control). w.times) (taken_leaves nodes hubs at line e fit);
+        times_behind = λ nodes hubs at line e fit. ap (λ (w : Watched Control). w.times) (taken_leaves nodes hubs at line e fit);
         refused = refused-leaves;
       }

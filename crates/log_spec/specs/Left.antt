@@ -33,7 +33,7 @@ pub record RunLeaves (text s buffer : List ℕ) : Type 0 where
   pub behind_the_last : (nodes hubs at line : ℕ) → (reading (handed text)).answer ≡ Taken nodes hubs at line → fits buffer 0 (log_bytes text) ≡ true
       → hub_of (plan_read text) (cells_left text s buffer) ≡ (left_by text at line).hub
   -- and the recorded times are those beside it
-  pub times-behind : (nodes hubs at line : ℕ) → (reading (handed text)).answer ≡ Taken nodes hubs at line → fits buffer 0 (log_bytes text) ≡ true
+  pub times_behind : (nodes hubs at line : ℕ) → (reading (handed text)).answer ≡ Taken nodes hubs at line → fits buffer 0 (log_bytes text) ≡ true
       → times_of (plan_read text) (cells_left text s buffer) ≡ (left_by text at line).times
   -- a refused plan leaves them as they were
   pub refused : (line number : ℕ) → (reading (handed text)).answer ≡ Refused line number → cells_left text s buffer ≡ s

@@ -1,7 +1,6 @@
 -- At its own clock no hub that a run reaches meets 11 or 12: the clock never passes 10^15, and nothing is due before it.
 use Prim.Native.Nat.{ℕ, ◌≤◌}
 use mathlib.Core.Path.{◌≡◌, refl, sym, ap, subst, ◌∙◌}
-use mathlib.Core.Bool.{true, false}
 use mathlib.Core.List.{List, [], ◌∷◌}
 use native.Mathlib.Omega.{arith}
 use borrow.Author.Tests.{eqb-true}
@@ -81,7 +80,7 @@ module _ (text : List ℕ) (nodes hubs at line : ℕ) (t : TakenAs text nodes hu
         record {
           soon = subst (λ (h : Hub Control). h.core.clock ≤ last_time) (sym run.hub) (clock_soon p (control p) (calls_of past));
           late = omega arith;
-          not-due = due_late p drawn.figures (core_of p s)
+          not_due = due_late p drawn.figures (core_of p s)
               (subst (λ (h : Hub Control). Sound p h.core) (sym run.hub)
               (sound p drawn.figures (control p) (control_follows p drawn) drawn.some_node (calls_of past)));
         }

@@ -1,11 +1,10 @@
--- Offers are a question beside the hub, and the lists of demand 3 may hold it.
-use Rattle.std.specs.Prelude.{ℕ, ◌≡◌, true, false, List, ◌∷◌, eqb}
+-- Offers are a call beside the hub: it has no table of its own, moves no clock and changes nothing, and the lists of demand 3 may hold it.
+use Rattle.std.specs.Prelude.{ℕ, ◌≡◌, List, ◌∷◌, eqb}
 use Rattle.rules.specs.Choice.{if◌then◌else◌}
 use Rattle.rules.specs.Plan.{Plan}
-use Rattle.beside.specs.Beside.{Reply, refusal, told, Beside, Item, aside, projected}
+use Rattle.beside.specs.Beside.{Reply, refusal, told, stays, Beside, Item, aside, projected}
 use Rattle.beside.specs.Extended.{Extended}
 use Rattle.beside.specs.SameHub.{six_calls, ExtendedDemands}
-use Rattle.beside.specs.Question.{question}
 use Rattle.offers.specs.Offers.{offers_row, offers_left, clock_of, OffersPromise}
 use Rattle.offers_theory.specs.Single.{Singly, AtClock}
 
@@ -18,12 +17,18 @@ pub record Lent : Type 0 where
 abbrev pub heard : ℕ → List ℕ → Reply (List ℕ)
 heard r left = if eqb r 0 then told left else refusal r
 
--- of these, by the cells alone
-abbrev pub heard_of : List ℕ → List ℕ → Lent → Reply (List ℕ)
-heard_of P s q = heard (offers_row q.numbers q.buffer) (offers_left P (clock_of s) s q.numbers q.buffer)
-
 abbrev pub offering : Beside
-offering = question Lent (List ℕ) heard_of
+offering =
+    record {
+      State = Unit {0};
+      start = tt;
+      Ask = Lent;
+      Told = λ q. List ℕ;
+      reply = λ P s q b. heard (offers_row q.numbers q.buffer) (offers_left P (clock_of s) s q.numbers q.buffer);
+      next = λ P s q b. b;
+      effect = λ q left. stays;
+      watch = λ P s e b. b;
+    }
 
 -- P and p are a taken plan's cells and the plan, s the hub's cells behind the list
 pub record InLists (P : List ℕ) (p : Plan) (xs : List (Item offering)) (s : List ℕ) : Type 0 where

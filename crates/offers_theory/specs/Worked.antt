@@ -10,7 +10,7 @@ use Rattle.beside.specs.Extended.{Extended}
 use Rattle.beside.specs.Run.{ran}
 use Rattle.offers.specs.Offers.{Offer, offers_in, answers_to}
 use Rattle.offers_theory.specs.Order.{no_offer, at_places}
-use Rattle.offers_theory.specs.Offering.{Lent, offering, InLists}
+use Rattle.offers_theory.specs.Offering.{offering, InLists}
 
 abbrev pub P01 : List ℕ
 P01 = (reading plan01).tables

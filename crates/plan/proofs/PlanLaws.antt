@@ -1,13 +1,12 @@
 -- The header's lines and the whole hub, by what each call found. The code's proofs cite these, a case each.
 use Prim.Native.Nat.{ℕ, ◌+◌, ◌-◌, ◌^◌, ◌<◌, ◌≤◌}
-use mathlib.Core.Path.{◌≡◌, refl, sym, ap, ◌∙◌}
+use mathlib.Core.Path.{◌≡◌, refl, ◌∙◌}
 use mathlib.Core.Bool.{Bool, true, false, ◌||◌, false≢true}
 use native.Mathlib.Omega.{arith}
-use mathlib.Core.List.{List, [], ◌∷◌}
+use mathlib.Core.List.{List}
 use mir.Val.{bool_byte}
 use lib.Dec.{eqb, ltb}
 use borrow.Author.Tests.{eq-eqb, ne_eqb, eqb-true, lt-ltb, le-ltb, ltb-true, ltb-false}
-use Rattle.rules.specs.Choice.{if◌then◌else◌}
 use Rattle.rules.proofs.Laws.Passes.{Which, which, yes', no'}
 use Rattle.rules.specs.Plan.{longest_in}
 use Rattle.text.specs.declared.Cursor.{Cursor}
@@ -15,9 +14,8 @@ use Rattle.header.specs.declared.Figure.TheVariants.{Got, Not}
 use Rattle.header.specs.declared.Optional.TheVariants.{Says, Absent}
 use Rattle.header.specs.Lines.{figure_at, optional_at, root_at}
 use Rattle.plan_tree.specs.declared.Place.{Place}
-use Rattle.plan_tree.specs.declared.Part.{Part}
 use Rattle.plan_tree.specs.declared.Part.TheVariants.{Read, Stopped}
-use Rattle.plan.specs.declared.Answer.TheVariants.{Taken, Refused}
+use Rattle.plan.specs.declared.Answer.TheVariants.{Taken}
 use Rattle.plan.specs.Words.{frame_word, overhead_word, interrupt_word, framing_word, strict_word}
 use lib.ListN.{length}
 use Rattle.plan.proofs.Reading.PlanBy.{plan_agrees}
@@ -26,7 +24,7 @@ use Rattle.plan.specs.Tables.{Figures, strict_code, put_figures}
 use Rattle.plan.specs.Reading.{framing_row}
 use Rattle.plan.specs.Reading as reading
 use Rattle.plan_tree.specs.Readers.{Answered, root_reader}
-use Rattle.plan.specs.PlanReader.{hub_at, strict_at, framing_at, interrupt_at, overhead_at, plan_by, refused, plan_over, behind_root}
+use Rattle.plan.specs.PlanReader.{hub_at, strict_at, framing_at, interrupt_at, overhead_at, plan_by, refused, plan_over}
 
 -- whether a plan is strict, as a number: the code's is that of the definitions
 pub byte_code : (b : Bool) → bool_byte b ≡ strict_code b

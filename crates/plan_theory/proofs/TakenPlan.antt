@@ -20,6 +20,6 @@ taken_plan text nodes hubs at line t =
       plan = drawn (figures_of d.fig) d.tree d.good d.within;
       nodes_told = nodes_are (figures_of d.fig) d.tree ∙ sym o.same_nodes;
       hubs_told = hubs_are (figures_of d.fig) d.tree ∙ sym o.same_hubs;
-      node_port_lem = node_stands (figures_of d.fig) d.tree d.within;
+      node_port = node_stands (figures_of d.fig) d.tree d.within;
       one_port = node_only (figures_of d.fig) d.tree d.within;
     })

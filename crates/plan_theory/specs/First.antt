@@ -51,8 +51,8 @@ pub record DecidedBy (text : List ℕ) (line number : ℕ) : Type 0 where
   pub its_number : above + 1 < 2 ^ 64 → line ≡ above + 1
   -- the row applies to the line, which is the first from above to which any row applies, and no earlier row applies to it
   pub row : RowApplies (lines text) (above + 1) number
-  pub first-line : (n k : ℕ) → RowApplies (lines text) n k → above + 1 ≤ n
-  pub first_row_lem : (k : ℕ) → RowApplies (lines text) (above + 1) k → place number ≤ place k
+  pub first_line : (n k : ℕ) → RowApplies (lines text) n k → above + 1 ≤ n
+  pub first_row : (k : ℕ) → RowApplies (lines text) (above + 1) k → place number ≤ place k
   -- the same by the answers: a text that ends above the line is refused only because it ends, at the line after the last
   pub none_above : (short : List ℕ) → lines short ≡ first_lines above (lines text) → RefusedAt short line 1
   -- and whatever follows the line changes nothing

@@ -77,5 +77,5 @@ pub record TakenPlan (cells : List ℕ) (nodes hubs : ℕ) : Type 0 where
   pub plan : Drawn (plan_of cells)
   pub nodes_told : (plan_of cells).nodes ≡ nodes
   pub hubs_told : (plan_of cells).hubs ≡ hubs
-  pub node_port_lem : (k : ℕ) → Within (plan_of cells).nodes k → Holds (plan_of cells) (rules.node k) (hub_of_node cells k) (port_of_node cells k)
+  pub node_port : (k : ℕ) → Within (plan_of cells).nodes k → Holds (plan_of cells) (rules.node k) (hub_of_node cells k) (port_of_node cells k)
   pub one_port : (k g q : ℕ) → Holds (plan_of cells) (rules.node k) g q → (hub_of_node cells k ≡ g) × (port_of_node cells k ≡ q)

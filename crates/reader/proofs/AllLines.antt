@@ -8,7 +8,7 @@ use borrow.Author.Tests.{eq-eqb, ne_eqb}
 use lib.Dec.{eqb}
 use lib.ListN.{length, drop, drop_of_length-le}
 use Rattle.text.specs.Part.{part}
-use Rattle.text.specs.Line.{ended, lines, next_number, next_line}
+use Rattle.text.specs.Line.{lines, next_number, next_line}
 use Rattle.text.specs.declared.Cursor.{Cursor}
 use Rattle.text.specs.declared.Next.{Next}
 use Rattle.text.specs.declared.Next.TheVariants.{Line, Unended, Done}

@@ -1,7 +1,7 @@
 // The line reader: it holds the lent text, the place of the next line and that
 // line's number, and hands out one line at a time as the part of the text itself.
-// The scanner is `text`'s; the functions over `Reader` are thin and proved
-// by hand, and `line_at` serves whoever has a plain text and two numbers.
+// The scanner is `text`'s; the functions over `Reader` are thin, and
+// `line_at` serves whoever has a plain text and two numbers.
 #![tactic(auto)]
 
 ghost use Rattle.std.specs.Prelude.{◌≡◌, ◌+◌, ◌<◌, ◌^◌};

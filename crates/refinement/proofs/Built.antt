@@ -406,7 +406,7 @@ module _ (P : List ℕ) (R : Ready P) (f : Bool → ℕ → Bool) where
     shown_node c h r k w e =
         let a = and_both (shown_in c (x k)) (eqb h (plan.hub_of_node P k) && eqb r (plan.port_of_node P k)) e in
         let b = and_both (eqb h (plan.hub_of_node P k)) (eqb r (plan.port_of_node P k)) a.1 in
-        let held = R.node_port_lem k w in
+        let held = R.node_port k w in
         subst (λ (i : ℕ). Upto p.hubs c i r ≡ true) (sym (eqb-true h (plan.hub_of_node P k) b.0))
         (subst (λ (i : ℕ). Upto p.hubs c (plan.hub_of_node P k) i ≡ true) (sym (eqb-true r (plan.port_of_node P k) b.1))
         (rw (le-leb (plan.port_of_node P k) (p.ports (plan.hub_of_node P k)) held.place.up, held.port) (counted c k w ∙ a.0)))

@@ -110,13 +110,13 @@ module _ (P : List ℕ) (R : Ready P) (is_high : Bool) (k : ℕ) (was now : ℕ 
           (at_above p D k g q i w.up v a) l (eqb-false r (p.place g) h)
 
   -- and so do all above it
-  above_same : (g q : ℕ) → Within p.hubs g → Within (p.ports g) q → At p D k g q → SeesSame g
-      → (h : ℕ) → Up p h g → mask_of (seen_at p was h) ≡ mask_of (seen_at p now h)
-  above_same g q w v a sees h (here e) =
+  above_same : (h g q : ℕ) → Within p.hubs g → Within (p.ports g) q → At p D k g q → SeesSame g
+      → Up p h g → mask_of (seen_at p was h) ≡ mask_of (seen_at p now h)
+  above_same h g q w v a sees (here e) =
       subst (λ (j : ℕ). mask_of (seen_at p was j) ≡ mask_of (seen_at p now j)) (sym e) (mask_cong ports (seen_at p was g) (seen_at p now g) sees)
-  above_same g q w v a sees h (over i u) =
-      above_same (p.parent g) (p.place g) (D.hung_parent g i w.up) (D.hung_place g i w.up) (at_above p D k g q i w.up v a)
-      (parent_same g q i w v a (any_cong ports (seen_at p was g) (seen_at p now g) sees)) h u
+  above_same h g q w v a sees (over i u) =
+      above_same h (p.parent g) (p.place g) (D.hung_parent g i w.up) (D.hung_place g i w.up) (at_above p D k g q i w.up v a)
+      (parent_same g q i w v a (any_cong ports (seen_at p was g) (seen_at p now g) sees)) u
 
   -- with g's mask right too, only those above it are left
   module _ (g m : ℕ) (s : List ℕ) (w : Within p.hubs g) (c : Climbing g s) (right : m ≡ mask_of (seen_at p now g)) where
@@ -164,8 +164,8 @@ module _ (P : List ℕ) (R : Ready P) (is_high : Bool) (k : ℕ) (was now : ℕ 
             let far = up_above p D h g i w.up u in
             stored_other now h far.0 (λ e. omega (arith, far.1))
             (c.ahead h (over i u)
-            ∙ above_same (p.parent g) (p.place g) (D.hung_parent g i w.up) (D.hung_place g i w.up) (at_above p D k g q i w.up v a)
-            (parent_same g q i w v a e) h u)
+            ∙ above_same h (p.parent g) (p.place g) (D.hung_parent g i w.up) (D.hung_place g i w.up) (at_above p D k g q i w.up v a)
+            (parent_same g q i w v a e) u)
 
   -- with so many levels left, from hub g with k at its port q, the masks come right
   Mends : ℕ → Type 0
@@ -230,7 +230,7 @@ module _ (P : List ℕ) (R : Ready P) (is_high : Bool) (k : ℕ) (was now : ℕ 
     own_port = plan.port_of_node P k
 
     abbrev held : Holds p (node k) own_hub own_port
-    held = R.node_port_lem k w
+    held = R.node_port k w
 
     own_at : At p D k own_hub own_port
     own_at =

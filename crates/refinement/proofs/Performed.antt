@@ -16,7 +16,7 @@ use Rattle.rules.specs.Rows.{Row, Verdict, accept, refuse, first_row, row12, row
 use Rattle.rules.specs.Machine.{Machine, Hub, Outcome, Turn, granting, grant_to, handled, step_at, accepted, decided, perform}
 use Rattle.rules.specs.Control as hubs
 use Rattle.rules.specs.Control.{Control, control}
-use Rattle.rules.specs.Promises.{Acceptable, asks, leaves, reserves, waits, InRange, given_up_lem, packets}
+use Rattle.rules.specs.Promises.{Acceptable, asks, leaves, reserves, waits, InRange, given_up, packets}
 use Rattle.rules.proofs.Laws.Lengths.{longest-up}
 use Rattle.rules.proofs.Laws.Passes.{Which, which, yes', no'}
 use Rattle.rules.proofs.Core.CallCases.{Event, asking, leaving, reserving, waiting}
@@ -96,7 +96,7 @@ module _ (P : List ℕ) (R : Ready P) (s : List ℕ) (K : Kept (plan_in P) s) wh
 
 -- a reservation's length fits in half a cell
 small_range : {p : Plan} {n b : ℕ} → InRange p n b → b < 65536
-small_range given_up_lem = omega arith
+small_range given_up = omega arith
 small_range {p} (packets n b l m u) = omega (arith, longest-up p.framing)
 
 accepted_event : (p : Plan) (M : Machine) (h : Hub M.State) {call : Call} → Event call

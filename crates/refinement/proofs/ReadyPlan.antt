@@ -70,7 +70,7 @@ ready text nodes hubs at line t =
     record {
       drawn = subst Drawn (sym same) k.plan;
       root_parent = taken_root text nodes hubs at line t;
-      node_port_lem = subst (λ (p : Plan). (i : ℕ) → Within p.nodes i → Holds p (node i) (hub_of_node P i) (port_of_node P i)) (sym same) k.node_port_lem;
+      node_port = subst (λ (p : Plan). (i : ℕ) → Within p.nodes i → Holds p (node i) (hub_of_node P i) (port_of_node P i)) (sym same) k.node_port;
       one_port =
           subst (λ (p : Plan). (i g q : ℕ) → Holds p (node i) g q → (hub_of_node P i ≡ g) × (port_of_node P i ≡ q)) (sym same) k.one_port;
     }

@@ -19,7 +19,7 @@ use Rattle.cells.specs.Masks.{stands_in, stands}
 pub record Ready (P : List ℕ) : Type 0 where
   pub drawn : Drawn (plan_in P)
   pub root_parent : get_or P (plan.parent_cell 1) 0 ≡ 0
-  pub node_port_lem : (k : ℕ) → Within (plan_in P).nodes k → Holds (plan_in P) (node k) (hub_of_node P k) (port_of_node P k)
+  pub node_port : (k : ℕ) → Within (plan_in P).nodes k → Holds (plan_in P) (node k) (hub_of_node P k) (port_of_node P k)
   pub one_port : (k g q : ℕ) → Holds (plan_in P) (node k) g q → (hub_of_node P k ≡ g) × (port_of_node P k ≡ q)
 
 -- which nodes count in a class

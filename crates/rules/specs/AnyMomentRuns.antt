@@ -285,8 +285,8 @@ asked_normal =
     }
 
 -- From frame 2 on node 1 has a packet of 12,000 reserved
-abbrev pub more-reserved : Worked
-more-reserved =
+abbrev pub more_reserved : Worked
+more_reserved =
     record {
       plan = plan01;
       node = 4;
@@ -344,7 +344,7 @@ not_run =
 abbrev pub worked_waits : List Worked
 worked_waits =
     full_wait ∷ full_wait_across ∷ replaced_wait ∷ passed_once
-    ∷ share_spent ∷ withdrawn ∷ asked_normal ∷ more-reserved ∷ not_run ∷ []
+    ∷ share_spent ∷ withdrawn ∷ asked_normal ∷ more_reserved ∷ not_run ∷ []
 
 -- row by row
 abbrev pub AllRight : List Worked → Type 0

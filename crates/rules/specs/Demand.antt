@@ -31,7 +31,7 @@ pub data RunTo (time : ℕ) (whole : List Entry) : Type 0 where
 -- the nth ending within the delay limit. (`high_grants` has the latest first, so the nth of n stands at its head.)
 pub record Demand3 (p : Plan) (k f : ℕ) (whole : List Entry) : Type 0 where
   pub exactly : length (high_grants p k f whole) ≡ (reserved p k f whole).packets
-  pub in_time_lem : get_or (high_grants p k f whole) 0 0 ≤ f * p.frame + delay_limit p k (λ j. reserved p j f whole)
+  pub in_time : get_or (high_grants p k f whole) 0 0 ≤ f * p.frame + delay_limit p k (λ j. reserved p j f whole)
 
 pub record Holds3 (p : Plan) (whole : List Entry) : Type 0 where
   pub demand : (k f : ℕ) → 1 ≤ k → k ≤ p.nodes → Unbroken p k f whole → NextTurns p k f whole (reserved p k f whole).packets

@@ -10,10 +10,10 @@ pub record Within (n k : ℕ) : Type 0 where
 
 -- T, O and D in their ranges
 pub record Figures (p : Plan) : Type 0 where
-  pub frame_low_lem : 100000 ≤ p.frame
+  pub frame_low : 100000 ≤ p.frame
   pub frame_up : p.frame ≤ 4000000
   pub overhead_up : p.overhead ≤ 50000
-  pub interrupt_low_lem : longest p + p.overhead ≤ p.interrupt
+  pub interrupt_low : longest p + p.overhead ≤ p.interrupt
   pub interrupt_up : p.interrupt ≤ p.frame
 
 -- hub h stands at port q of hub g

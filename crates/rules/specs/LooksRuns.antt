@@ -38,8 +38,8 @@ figures x =
     }
 
 -- plan01's figures; hub 1 has hubs 2 and 4, hub 2 has hub 3 with nodes 1 and 2, and hub 4 has hub 5 with node 3
-abbrev pub two-lines : Plan
-two-lines =
+abbrev pub two_lines : Plan
+two_lines =
     record {
       frame = plan01.frame;
       overhead = plan01.overhead;
@@ -81,7 +81,7 @@ one_hub =
 abbrev pub class_changes : Worked
 class_changes =
     record {
-      plan = two-lines;
+      plan = two_lines;
       calls =
           reserve 0 1 2 512 ∷ ask high 100000 1 512 ∷ step 200000
           ∷ ask normal 100000 3 512 ∷ step 200000 ∷ ask high 101512 1 512 ∷ step 200000 ∷ [];
@@ -100,7 +100,7 @@ class_changes =
 abbrev pub after_a_rest : Worked
 after_a_rest =
     record {
-      plan = two-lines;
+      plan = two_lines;
       calls = ask normal 0 1 512 ∷ step 100000 ∷ step 100000 ∷ ask normal 2000 1 512 ∷ step 100000 ∷ [];
       expected =
           record {
@@ -130,8 +130,8 @@ on_one_level =
           };
     }
 
-abbrev pub worked-looks : List Worked
-worked-looks = class_changes ∷ after_a_rest ∷ on_one_level ∷ []
+abbrev pub worked_looks : List Worked
+worked_looks = class_changes ∷ after_a_rest ∷ on_one_level ∷ []
 
 -- row by row
 abbrev pub AllRight : List Worked → Type 0

@@ -65,7 +65,7 @@ pub record Admits (p : Plan) (past : List Entry) (s : Core) : Type 0 where
 pub record OnTime (p : Plan) (s : Core) (t : ℕ) : Type 0 where
   pub soon : t ≤ last_time
   pub late : s.clock ≤ t
-  pub not-due : (d : ℕ) → due p s ≡ at d → t ≤ d
+  pub not_due : (d : ℕ) → due p s ≡ at d → t ≤ d
 
 -- what the reservation r in force asks of a high request: where n is at least 1, b is at most its b; and in a strict plan n is at least 1
 pub record Allows (p : Plan) (r : Share) (c : Class) (b : ℕ) : Type 0 where
@@ -82,7 +82,7 @@ pub record Askable (p : Plan) (s : Core) (c : Class) (t k b : ℕ) : Type 0 wher
 
 -- the length of a reserve is in range: with n = 0 instead it is 0
 pub data InRange (p : Plan) : ℕ → ℕ → Type 0 where
-  given_up_lem : InRange p 0 0
+  given_up : InRange p 0 0
   packets : (n b : ℕ) → 1 ≤ n → shortest p ≤ b → b ≤ longest p → InRange p n b
 
 -- a reserve of a node of the plan, with n and b in range, that the frame can hold

@@ -142,8 +142,8 @@ module _ (p : Plan) where
   unchanging call h = record { answer = (right call h).answer; hub = h }
 
   -- "turns every event down", by 12 where no row does
-  abbrev pub turning-down : Call → Hub Control → Outcome Control
-  turning-down = saying 12 (λ call s. true)
+  abbrev pub turning_down : Call → Hub Control → Outcome Control
+  turning_down = saying 12 (λ call s. true)
 
 -- The runs, all on document 01's plan. The answers of a hub that performs calls in another way than `perform`:
 abbrev pub by : (Plan → Call → Hub Control → Outcome Control) → List Call → List Answer
@@ -196,15 +196,15 @@ repeated =
     }
 
 -- control goes down to node 2's hub, one move, and up again at the rest; the plan has two levels, so that the limit is 4
-abbrev pub down-and-up : List Call
-down-and-up = ask normal 0 2 512 ∷ step 1 ∷ step 5000 ∷ []
+abbrev pub down_and_up : List Call
+down_and_up = ask normal 0 2 512 ∷ step 1 ∷ step 5000 ∷ []
 
 abbrev pub zero_told : Slip
 zero_told =
     record {
       plan = plan01;
       wrong = answers plan01 (zero_as_moves plan01);
-      calls = down-and-up;
+      calls = down_and_up;
       right_answers = taken ∷ grant 0 2 normal 1512 1 ∷ rest 1512 1 ∷ [];
       wrong_answers = taken ∷ grant 0 2 normal 1512 0 ∷ rest 1512 0 ∷ [];
     }
@@ -214,7 +214,7 @@ limit_told =
     record {
       plan = plan01;
       wrong = answers plan01 (limit_as_moves plan01);
-      calls = down-and-up;
+      calls = down_and_up;
       right_answers = taken ∷ grant 0 2 normal 1512 1 ∷ rest 1512 1 ∷ [];
       wrong_answers = taken ∷ grant 0 2 normal 1512 4 ∷ rest 1512 4 ∷ [];
     }
@@ -268,7 +268,7 @@ abbrev pub all_turned_down : Slip
 all_turned_down =
     record {
       plan = plan01;
-      wrong = by turning-down;
+      wrong = by turning_down;
       calls = reserve 0 3 1 512 ∷ ask normal 0 1 512 ∷ off 0 1 ∷ until 100000 ∷ ask high 100000 3 512 ∷ step 100001 ∷ [];
       right_answers = taken ∷ taken ∷ taken ∷ taken ∷ taken ∷ grant 100000 3 high 101512 1 ∷ [];
       wrong_answers = refused 12 ∷ refused 12 ∷ refused 12 ∷ refused 12 ∷ refused 16 ∷ quiet ∷ [];

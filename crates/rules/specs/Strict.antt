@@ -63,7 +63,7 @@ pub record StaysNormal (p : Plan) (whole : List Entry) : Type 0 where
   -- it is not k's high request in the words of demand 3,
   pub not_high : (k : ℕ) (past : List Entry) → TakenNormal p k past → High p k past → ⊥
   -- nor the one that request 5 speaks of;
-  pub not-put-up : (k t : ℕ) → packets_then p k t whole ≡ 0 → PutUp p k t whole → ⊥
+  pub not_put_up : (k t : ℕ) → packets_then p k t whole ≡ 0 → PutUp p k t whole → ⊥
   -- every grant in class high is of a request that is high by demand 3's words at the place just before the step,
   pub high_only : (later : List Entry) (t s k end moves : ℕ) (before : List Entry)
       → whole ≡ later ++ (record { call = step t; answer = grant s k high end moves } ∷ before) → High p k before

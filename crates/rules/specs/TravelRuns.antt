@@ -99,8 +99,8 @@ one_round =
     }
 
 -- and round again: at the second grant to node 1 the root's pointer returns, 2 × 2 × 2
-abbrev pub two-rounds : Worked
-two-rounds =
+abbrev pub two_rounds : Worked
+two_rounds =
     record {
       plan = nested;
       class = normal;
@@ -219,8 +219,8 @@ with_the_other_class =
           };
     }
 
-abbrev pub worked-runs : List Worked
-worked-runs = one_round ∷ two-rounds ∷ high_rounds ∷ once_more ∷ with_a_rest ∷ with_the_other_class ∷ []
+abbrev pub worked_runs : List Worked
+worked_runs = one_round ∷ two_rounds ∷ high_rounds ∷ once_more ∷ with_a_rest ∷ with_the_other_class ∷ []
 
 -- row by row
 abbrev pub AllRight : List Worked → Type 0

@@ -111,8 +111,8 @@ elsewhere r =
     }
 
 -- control turns in hub 2, in which nothing is left: up to the root and down to hub 3, two moves, as many as by the old rule 2
-abbrev pub handed-up : Rule2 → Slip
-handed-up r =
+abbrev pub handed_up : Rule2 → Slip
+handed_up r =
     record {
       plan = pair;
       wrong = answers pair (turning_by r pair);
@@ -124,5 +124,5 @@ handed-up r =
           taken ∷ taken ∷ grant 100000 1 normal 101512 1 ∷ taken ∷ grant 101512 2 high 103024 2 ∷ taken ∷ grant 103024 3 normal 104536 3 ∷ [];
     }
 
-abbrev pub turning-slips : List Slip
-turning-slips = unmarked mark_ignored ∷ unmarked too_low ∷ elsewhere port_ignored ∷ handed-up counted_to_root ∷ []
+abbrev pub turning_slips : List Slip
+turning_slips = unmarked mark_ignored ∷ unmarked too_low ∷ elsewhere port_ignored ∷ handed_up counted_to_root ∷ []

@@ -146,8 +146,8 @@ turned_at_the_start =
     }
 
 -- Here the reservation's length falls below the request's. A normal request of 205,000 finds it normal already, and keeps the start's time
-abbrev pub found-turned : Worked
-found-turned =
+abbrev pub found_turned : Worked
+found_turned =
     record {
       plan = plan01;
       calls =
@@ -288,7 +288,7 @@ reserved_at_the_start =
 abbrev pub worked_waits : List Worked
 worked_waits =
     the_log ∷ replaced_normal ∷ replaced_high ∷ normal_then_high ∷ there_and_back
-    ∷ turned_at_the_start ∷ found-turned ∷ held_then_turned ∷ withdrawn_and_new ∷ taken_as_normal
+    ∷ turned_at_the_start ∷ found_turned ∷ held_then_turned ∷ withdrawn_and_new ∷ taken_as_normal
     ∷ at_one_instant ∷ normal_over_a_start ∷ put_up_at_the_start ∷ reserved_between ∷ reserved_between_alone ∷ turned_and_high_again ∷ turned_then_taken_as_normal ∷ reserved_at_the_start ∷ []
 
 -- row by row

@@ -124,7 +124,7 @@ pub record Waits (p : Plan) (calls : List Call) : Type 0 where
       → stand_at p k (clock_at (made p (control p) calls).past) (made p (control p) calls).past
       ≡ stand_of ((made p (control p) calls).hub.core.request k) ((watched p (control p) calls).left.times k)
   -- and so is each grant's wait: the grant's time less the time told at the place just before
-  pub waits_told_lem : (later : List Timed) (t s k : ℕ) (c : Class) (end moves wait : ℕ) (before : List Timed)
+  pub waits_told : (later : List Timed) (t s k : ℕ) (c : Class) (end moves wait : ℕ) (before : List Timed)
       → (watched p (control p) calls).past
       ≡ later ++ (record { entry = record { call = step t; answer = grant s k c end moves }; wait = wait } ∷ before)
       → WaitTold p k c s wait (entries_of before)

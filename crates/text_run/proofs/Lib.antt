@@ -1,8 +1,6 @@
--- The laws that the functions' proofs cite. Again and Lent serve the walk of `events`, and Front the programs.
+-- The laws that the functions' proofs cite. RunState serves the loop of `events`, and Front the programs.
 mod WholeLaws
 mod TwoPasses
 mod PassLaws
 mod RunState
-mod Again
-mod Lent
 pub mod Front

@@ -58,17 +58,20 @@ module _ (write : Bool) (P text : List ℕ) (at number left : ℕ) (s b : List �
   passed = by_case (next_line text c) refl
 
   -- a line with its LF takes the reader on, and within the text
-  nearer : (x : Next) → next_line text c ≡ x → (found c x).ended ≡ true → (at < (found c x).at) × ((found c x).at ≤ length text)
+  nearer_by_case : (x : Next) → next_line text c ≡ x → (found c x).ended ≡ true → (at < (found c x).at) × ((found c x).at ≤ length text)
   unfolding found
-  nearer (Line start end n next) e h =
+  nearer_by_case (Line start end n next) e h =
       let l = scanned_line text c start end n next e in
       (omega (arith, l.begins, l.onward, l.ends), l.inside)
-  nearer (Unended start end n) e h = let q : ◌≡◌ {A = ℕ} 0 1 = cc in absurd (omega arith)
-  nearer (Done n) e h = let q : ◌≡◌ {A = ℕ} 0 1 = cc in absurd (omega arith)
+  nearer_by_case (Unended start end n) e h = let q : ◌≡◌ {A = ℕ} 0 1 = cc in absurd (omega arith)
+  nearer_by_case (Done n) e h = let q : ◌≡◌ {A = ℕ} 0 1 = cc in absurd (omega arith)
+
+  pub nearer : f.ended ≡ true → (at < f.at) × (f.at ≤ length text)
+  nearer = nearer_by_case (next_line text c) refl
 
   pub fewer : f.ended ≡ true → length text - at < suc left → length text - f.at < left
   fewer h enough =
-      let w = nearer (next_line text c) refl h in
+      let w = nearer h in
       omega (arith, w.0, w.1)
 
 -- how the run goes on

@@ -2,111 +2,83 @@
 use mathlib.Core.Path.{◌≡◌, refl, ap, ◌∙◌}
 use mathlib.Core.Bool.{Bool, true, false}
 use mathlib.Core.List.{List}
-use mathlib.Core.WellFounded.InvImage
-use mathlib.Core.WellFounded.{WellFounded}
-use Prim.Native.Nat.{ℕ, suc, ◌-◌, ◌<◌, ◌^◌}
+use Prim.Native.Nat.{ℕ, suc, ◌-◌, ◌<◌}
 use native.Mathlib.Omega.{arith}
 use lib.ListN.{length}
-use lib.WfN.{lt-wf_rel}
 use Rattle.text.specs.Part.{part}
-use Rattle.reader.specs.LineReader.{found_at}
+use Rattle.reader.specs.LineReader.{found_at, ahead}
 use Rattle.reader.specs.declared.Found.{Found}
+use Rattle.reader.specs.declared.Reader.{Reader}
 use Rattle.log_spec.specs.Cells.{Run, events_by}
 use Rattle.text_run.specs.declared.Went.{Went}
 use Rattle.line_run.specs.LineRun.{Ran, line_by}
 use Rattle.text_run.specs.LinePass.{Passed}
 use Rattle.line_run.proofs.Ran.{ran_same}
-use Rattle.text_run.proofs.PassLaws.{behind_line, passed, fewer, over, onward}
+use Rattle.text_run.proofs.PassLaws.{behind_line, passed, nearer, fewer, over, onward}
 
--- what a run starts from: the text, the plan's tables, the first event line,
--- the cascade's cells, and the buffer with the place behind what is written
-pub record Origin : Type 0 where
-  pub text : List ℕ
-  pub plan : List ℕ
-  pub place : ℕ
-  pub line : ℕ
-  pub cells : List ℕ
-  pub write : Bool
-  pub buffer : List ℕ
-  pub at : ℕ
-
-module _ (o : Origin) where
+-- a run with these tables over this text
+module _ (write : Bool) (P text : List ℕ) where
   -- the lines from a place on, with this much fuel
   abbrev from_line : ℕ → ℕ → ℕ → List ℕ → List ℕ → ℕ → Run
-  from_line left place line = events_by o.write o.plan o.text left (record { at = place; number = line })
+  from_line left place line = events_by write P text left (record { at = place; number = line })
 
-  abbrev pub whole_run : Run
-  whole_run = from_line (suc (length o.text)) o.place o.line o.cells o.buffer o.at
+  -- the run from its first line on
+  abbrev pub whole_run : ℕ → ℕ → List ℕ → List ℕ → ℕ → Run
+  whole_run = from_line (suc (length text))
 
-  -- at which line the run is, with fuel `left` and one more, at which cells, bytes and place; and that what is left to do is the whole run
-  pub record State : Type 0 where
+  -- with how much fuel (`left` and one more) the run is at this line, at these cells, bytes and
+  -- place; and that what is left to do is the whole run, with fuel for every line that can be left
+  pub record State (whole : Run) (at number : ℕ) (cells buffer : List ℕ) (z : ℕ) : Type 0 where
     pub left : ℕ
-    pub at : ℕ
-    pub number : ℕ
-    pub cells : List ℕ
-    pub buffer : List ℕ
-    pub z : ℕ
-    pub same : whole_run ≡ from_line (suc left) at number cells buffer z
-    pub enough : length o.text - at < suc left
-    pub long : length buffer ≡ length o.buffer
-    pub z_fits : z < 2 ^ 64
+    pub same : whole ≡ from_line (suc left) at number cells buffer z
+    pub enough : length text - at < suc left
 
-  abbrev pub Nearer : State → State → Type 0
-  Nearer j i = j.left < i.left
+  pub start : (place line : ℕ) (cells buffer : List ℕ) (at : ℕ) → State (whole_run place line cells buffer at) place line cells buffer at
+  start place line cells buffer at = record { left = length text; same = refl; enough = omega arith }
 
-  pub Nearer-wf : WellFounded Nearer
-  Nearer-wf = InvImage.wf (λ (i : State). i.left) lt-wf_rel.wf
+  -- the line that the reader hands out at a place, and its run
+  abbrev pub ahead_of : ℕ → ℕ → Found
+  ahead_of at number = found_at text at number
 
-  unfoldable pub start : o.at < 2 ^ 64 → State
-  start fits = record {
-    left = length o.text;
-    at = o.place;
-    number = o.line;
-    cells = o.cells;
-    buffer = o.buffer;
-    z = o.at;
-    same = refl;
-    enough = omega arith;
-    long = refl;
-    z_fits = fits;
-  }
+  abbrev pub ran : ℕ → ℕ → List ℕ → List ℕ → ℕ → Run
+  ran at number = line_by write P (part text at (ahead_of at number).end) number (ahead_of at number).ended
 
-  -- a pass from a state, on the line that the reader hands out there
-  module _ (t : State) where
-    abbrev pub ahead_of : Found
-    ahead_of = found_at o.text t.at t.number
-
-    abbrev pub ran : Run
-    ran = line_by o.write o.plan (part o.text t.at ahead_of.end) t.number ahead_of.ended t.cells t.buffer t.z
-
+  -- a pass from a state, on that line
+  module _ (whole : Run) (at number : ℕ) (cells buffer : List ℕ) (z : ℕ) (t : State whole at number cells buffer z) where
     abbrev onwards : List ℕ → List ℕ → ℕ → Run
-    onwards = from_line t.left ahead_of.at ahead_of.number
+    onwards = from_line t.left (ahead_of at number).at (ahead_of at number).number
 
-    pub step : whole_run ≡ behind_line ahead_of.ended onwards ran
-    step = t.same ∙ passed o.write o.plan o.text t.at t.number t.left t.cells t.buffer t.z
+    step : whole ≡ behind_line (ahead_of at number).ended onwards (ran at number cells buffer z)
+    step = t.same ∙ passed write P text at number t.left cells buffer z
 
-    module _ {w : Went} {xs ys : List ℕ} (e : Passed ahead_of.ended ran w xs ys) where
+    module _ (w : Went) (xs ys : List ℕ) (e : Passed (ahead_of at number).ended (ran at number cells buffer z) w xs ys) where
       -- the run is over
-      pub ends : w.more ≡ false → Ran whole_run w.put xs ys
-      ends h = ran_same step (over onwards ran ahead_of.ended e.0 e.1.0 e.1.1 h)
+      pub ends : w.more ≡ false → Ran whole w.put xs ys
+      ends h = ran_same step (over onwards (ran at number cells buffer z) (ahead_of at number).ended e.0 e.1.0 e.1.1 h)
 
-      -- it goes on, nearer to the text's end
-      unfoldable pub goes : length ys ≡ length t.buffer → w.at < 2 ^ 64 → w.more ≡ true → (u : State) × (Nearer u t)
-      goes n fits h =
-          let r = onward onwards ran ahead_of.ended e.0 e.1.0 e.1.1 h in
-          let m = fewer o.write o.plan o.text t.at t.number t.left t.cells t.buffer t.z r.0 t.enough in
-          let l : t.left ≡ suc (t.left - 1) = omega arith in (
-            record {
-              left = t.left - 1;
-              at = ahead_of.at;
-              number = ahead_of.number;
-              cells = xs;
-              buffer = ys;
-              z = w.at;
-              same = step ∙ r.1 ∙ ap (λ (k : ℕ). from_line k ahead_of.at ahead_of.number xs ys w.at) l;
-              enough = omega arith;
-              long = n ∙ t.long;
-              z_fits = fits;
-            },
-            omega arith,
-          )
+      -- it goes on
+      pub goes : w.more ≡ true → State whole (ahead_of at number).at (ahead_of at number).number xs ys w.at
+      goes h =
+          let r = onward onwards (ran at number cells buffer z) (ahead_of at number).ended e.0 e.1.0 e.1.1 h in
+          let m = fewer write P text at number t.left cells buffer z r.0 t.enough in
+          let l : t.left ≡ suc (t.left - 1) = omega arith in
+          record {
+            left = t.left - 1;
+            same = step ∙ r.1 ∙ ap (λ (k : ℕ). from_line k (ahead_of at number).at (ahead_of at number).number xs ys w.at) l;
+            enough = omega arith;
+          }
+
+      -- nearer to the text's end
+      pub falls : w.more ≡ true → length text - (ahead_of at number).at < length text - at
+      falls h =
+          let r = onward onwards (ran at number cells buffer z) (ahead_of at number).ended e.0 e.1.0 e.1.1 h in
+          let n = nearer write P text at number t.left cells buffer z r.0 in
+          omega (arith, n.0, n.1)
+
+  -- the pass on a line that a reader of this text handed out is the pass on that line
+  module _ (cells buffer xs ys : List ℕ) (z : ℕ) (w : Went) where
+    pub on_line : (r : Reader) (bytes : List ℕ) (number : ℕ) (ended : Bool) → r.text.now ≡ text
+        → bytes ≡ part r.text.now r.at (ahead r).end → number ≡ r.number → ended ≡ (ahead r).ended
+        → Passed ended (line_by write P bytes number ended cells buffer z) w xs ys
+        → Passed (ahead_of r.at r.number).ended (ran r.at r.number cells buffer z) w xs ys
+    on_line r bytes number ended here own same lf p = rw (own, same, lf, here) at p

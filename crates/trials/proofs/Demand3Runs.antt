@@ -53,9 +53,9 @@ shown x e =
     let f = x.frame in
     record {
       unbroken = says x.expected.unbroken _ (unbroken_is p k f (whole x)) (ap (λ (y : Figures). y.unbroken) e);
-      next_turns_lem = says x.expected.next_turns_lem _ (next_turns_is p k f _ (whole x)) (ap (λ (y : Figures). y.next_turns_lem) e);
-      run_to_lem = says x.expected.run_to_lem _ (run_to_is (frame_end x) (whole x)) (ap (λ (y : Figures). y.run_to_lem) e);
-      claim = says (x.expected.exactly && x.expected.in_time_lem) _ (demand3_is p k f (whole x)) (ap (λ (y : Figures). y.exactly && y.in_time_lem) e);
+      next_turns = says x.expected.next_turns _ (next_turns_is p k f _ (whole x)) (ap (λ (y : Figures). y.next_turns) e);
+      run_to = says x.expected.run_to _ (run_to_is (frame_end x) (whole x)) (ap (λ (y : Figures). y.run_to) e);
+      claim = says (x.expected.exactly && x.expected.in_time) _ (demand3_is p k f (whole x)) (ap (λ (y : Figures). y.exactly && y.in_time) e);
     }
 
 all_shown : (rows : List Worked) → map figures rows ≡ map (λ (x : Worked). x.expected) rows → AllShown rows
@@ -81,13 +81,13 @@ pub at_the_limit_kept : ClaimOf at_the_limit
 unfolding AllShown
 at_the_limit_kept =
     let s = runs_shown.0 in
-    its_claim at_the_limit on_the_plan.plan (omega arith) (omega (arith, on_the_plan.nodes_told)) s.unbroken s.next_turns_lem s.run_to_lem
+    its_claim at_the_limit on_the_plan.plan (omega arith) (omega (arith, on_the_plan.nodes_told)) s.unbroken s.next_turns s.run_to
 
 pub over_the_start_kept : ClaimOf over_the_start
 unfolding AllShown
 over_the_start_kept =
     let s = runs_shown.1.0 in
-    its_claim over_the_start on_the_plan.plan (omega arith) (omega (arith, on_the_plan.nodes_told)) s.unbroken s.next_turns_lem s.run_to_lem
+    its_claim over_the_start on_the_plan.plan (omega arith) (omega (arith, on_the_plan.nodes_told)) s.unbroken s.next_turns s.run_to
 
 -- with framing 5, by the same theorem
 ring_taken : TakenAs ring 4 2 112 14
@@ -100,7 +100,7 @@ pub ring_at_the_limit_kept : ClaimOf ring_at_the_limit
 unfolding AllShown
 ring_at_the_limit_kept =
     let s = runs_shown.1.1.0 in
-    its_claim ring_at_the_limit on_the_ring.plan (omega arith) (omega (arith, on_the_ring.nodes_told)) s.unbroken s.next_turns_lem s.run_to_lem
+    its_claim ring_at_the_limit on_the_ring.plan (omega arith) (omega (arith, on_the_ring.nodes_told)) s.unbroken s.next_turns s.run_to
 
 -- without `(strict)`, by the same theorem
 default_taken : TakenAs plan01_default 4 2 91 12
@@ -113,4 +113,4 @@ pub behind_a_laptop_kept : ClaimOf behind_a_laptop
 unfolding AllShown
 behind_a_laptop_kept =
     let s = runs_shown.1.1.1.0 in
-    its_claim behind_a_laptop by_default_plan.plan (omega arith) (omega (arith, by_default_plan.nodes_told)) s.unbroken s.next_turns_lem s.run_to_lem
+    its_claim behind_a_laptop by_default_plan.plan (omega arith) (omega (arith, by_default_plan.nodes_told)) s.unbroken s.next_turns s.run_to

@@ -234,8 +234,8 @@ module _ (p : Plan) (k f : ℕ) where
   demand3_is whole = (
     λ q.
         let (a, b) = and_both (exactly p k f whole) (in_time p k f whole) q in
-        record { exactly = eqb-true _ _ a; in_time_lem = leb-true _ _ b },
-    λ d. both_true _ _ (eq-eqb _ _ d.exactly) (le-leb _ _ d.in_time_lem),
+        record { exactly = eqb-true _ _ a; in_time = leb-true _ _ b },
+    λ d. both_true _ _ (eq-eqb _ _ d.exactly) (le-leb _ _ d.in_time),
   )
 
 pub run_to_is : (time : ℕ) (whole : List Entry) → (run_to time whole ≡ true) ↔ RunTo time whole

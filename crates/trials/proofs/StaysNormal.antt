@@ -1,6 +1,5 @@
 -- The premise of `StaysNormal` is met at a place of a run, by computing.
 use mathlib.Core.Path.{refl}
-use lib.ListN.{take, drop}
 use Rattle.text.specs.Number.{digit_run, keep_digit, well_formed, value_from, read_run, read_number}
 use Rattle.text.specs.Line as line
 use Rattle.text.specs.Word.{starts_with, is_word}

@@ -3,7 +3,7 @@ use Rattle.std.specs.Prelude.{ℕ, List, [], ◌∷◌, ◌++◌}
 use Rattle.rules.specs.Call.{normal, high, ask, reserve, until, step, Answer, taken, refused, grant, rest, quiet}
 use Rattle.trials.specs.Text.{text_of}
 use Rattle.trials.specs.Row.{Row, ◌⟶◌, ◌before◌, refusing, taking, running}
-use Rattle.trials.specs.Plans.{tree01, figures01, plan01, plan01_default, nine, short_interrupt, framed, ring, six_levels, three-levels}
+use Rattle.trials.specs.Plans.{tree01, figures01, plan01, plan01_default, nine, short_interrupt, framed, ring, six_levels, three_levels}
 
 -- M1: one hub of 9 nodes, pointer 3 (by a grant to node 2), normal from 2, 3, 5, 9: granted 3, 5, 9, 2
 abbrev pub m1 : Row
@@ -140,9 +140,9 @@ m10_levels = refusing six_levels 9 3
 
 -- M11, for request 4 of document 02, worked out by hand: nodes 1 and 2 stand in hub 3, nodes 3 and 4 in
 -- hub 2 above it. a to e are the moves of the last five grants, which by the old rule 2 were others
-abbrev pub three-levels-by : ℕ → ℕ → ℕ → ℕ → ℕ → Row
-three-levels-by a b c d e =
-    taking three-levels 5 3
+abbrev pub three_levels_by : ℕ → ℕ → ℕ → ℕ → ℕ → Row
+three_levels_by a b c d e =
+    taking three_levels 5 3
     (reserve 0 2 1 1000 ⟶ taken
     ∷ reserve 0 3 1 1000 ⟶ taken
     ∷ reserve 0 4 1 1000 ⟶ taken
@@ -171,11 +171,11 @@ three-levels-by a b c d e =
     ∷ [])
 
 abbrev pub m11 : Row
-m11 = three-levels-by 1 1 5 4 0
+m11 = three_levels_by 1 1 5 4 0
 
 -- what the climb to the root took
 abbrev pub m11_from_root : Row
-m11_from_root = three-levels-by 3 3 7 6 4
+m11_from_root = three_levels_by 3 3 7 6 4
 
 -- M12, for request 3 of document 02: with framing 5 512 and 36,000 pass row 15, and 511 and 36,001 don't
 abbrev pub m12_lengths : Row
@@ -268,8 +268,8 @@ m13 =
     ∷ m13_in_force plan01_default taken (grant 200000 3 normal 202000 1 ∷ rest 202000 1 ∷ []) ∷ []
 
 -- the line stands just before the root's `(hub`, behind any framing's; anywhere else, twice or with a number it is 1
-abbrev pub m13-lines : List Row
-m13-lines =
+abbrev pub m13_lines : List Row
+m13_lines =
     taking (text_of (figures01 ++ "(framing 3)" ∷ "(strict)" ∷ tree01)) 4 2 (ask high 0 1 512 ⟶ refused 16 ∷ [])
     ∷ taking (text_of (figures01 ++ "(framing 3)" ∷ tree01)) 4 2 (ask high 0 1 512 ⟶ taken ∷ [])
     ∷ refusing (text_of (figures01 ++ "(strict)" ∷ "(framing 3)" ∷ tree01)) 5 1
@@ -284,7 +284,7 @@ m13-lines =
 abbrev pub cases : List Row
 cases =
     m1 ∷ m2 ∷ m3 ∷ m4 ∷ m5_granted ∷ m5_refused ∷ m6 ∷ m7_normal ∷ m7_reserve ∷ m7_high ∷ m8 ∷ m9 ∷ m10_interrupt
-    ∷ m10_levels ∷ m11 ∷ m12_lengths ∷ m12_three ∷ m12_refused ++ m12_elsewhere ++ m13 ++ m13-lines
+    ∷ m10_levels ∷ m11 ∷ m12_lengths ∷ m12_three ∷ m12_refused ++ m12_elsewhere ++ m13 ++ m13_lines
 
 -- cases by the old rule 2: M4's counts are the same by both
 abbrev pub cases_from_root : List Row

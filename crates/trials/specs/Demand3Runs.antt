@@ -24,10 +24,10 @@ pub record Figures : Type 0 where
   pub limit : ℕ
   -- whether each premise holds, and each half of the claim
   pub unbroken : Bool
-  pub next_turns_lem : Bool
-  pub run_to_lem : Bool
+  pub next_turns : Bool
+  pub run_to : Bool
   pub exactly : Bool
-  pub in_time_lem : Bool
+  pub in_time : Bool
 
 pub record Worked : Type 0 where
   -- the bytes of the plan's text, and how it is answered
@@ -60,10 +60,10 @@ module _ (x : Worked) where
         ends = high_grants plan_read x.node x.frame whole;
         limit = limit plan_read x.node x.frame whole;
         unbroken = unbroken plan_read x.node x.frame whole;
-        next_turns_lem = next_turns plan_read x.node x.frame n whole;
-        run_to_lem = run_to frame_end whole;
+        next_turns = next_turns plan_read x.node x.frame n whole;
+        run_to = run_to frame_end whole;
         exactly = exactly plan_read x.node x.frame whole;
-        in_time_lem = in_time plan_read x.node x.frame whole;
+        in_time = in_time plan_read x.node x.frame whole;
       }
 
 -- the text is taken, with 4 nodes and 2 hubs; it ends at byte 100, and the next line would be line 13
@@ -133,16 +133,16 @@ at_the_limit =
       ends = 136024 ∷ 126512 ∷ [];
       limit = 136024;
       unbroken = true;
-      next_turns_lem = true;
-      run_to_lem = true;
+      next_turns = true;
+      run_to = true;
       exactly = true;
-      in_time_lem = true;
+      in_time = true;
     })
 
 -- Nodes 3, 4, 1 and 2 have a packet each in this order, three times, from t on. Behind
 -- its first one node 2 asks normal, and high only as the next turn comes
-abbrev pub three-rounds : ℕ → List Entry
-three-rounds t =
+abbrev pub three_rounds : ℕ → List Entry
+three_rounds t =
     step 300000 ⟶ grant t 3 high (t + 5000) 1
     ∷ ask high t 3 4000 ⟶ taken
     ∷ step 300000 ⟶ grant (t + 5000) 4 high (t + 8000) 1
@@ -196,17 +196,17 @@ over_the_start =
     ∷ ask high 200000 1 12000 ⟶ taken
     ∷ ask high 205000 3 4000 ⟶ taken
     ∷ ask high 205000 4 2000 ⟶ taken
-    ∷ three-rounds 212999
+    ∷ three_rounds 212999
     ++ (step 300000 ⟶ rest 299999 1 ∷ step 300000 ⟶ quiet ∷ []))
     (record {
       packets = 3;
       ends = 299999 ∷ 270999 ∷ 241999 ∷ [];
       limit = 300000;
       unbroken = true;
-      next_turns_lem = true;
-      run_to_lem = true;
+      next_turns = true;
+      run_to = true;
       exactly = true;
-      in_time_lem = true;
+      in_time = true;
     })
 
 -- All premises hold, with framing 5: the packet in progress has 36,000 bits, and the nth packet again ends just at the limit,
@@ -225,10 +225,10 @@ ring_at_the_limit =
             ends = 260024 ∷ 250512 ∷ [];
             limit = 260024;
             unbroken = true;
-            next_turns_lem = true;
-            run_to_lem = true;
+            next_turns = true;
+            run_to = true;
             exactly = true;
-            in_time_lem = true;
+            in_time = true;
           };
     }
 
@@ -259,10 +259,10 @@ behind_a_laptop =
       ends = 123000 ∷ 118000 ∷ [];
       limit = 123000;
       unbroken = true;
-      next_turns_lem = true;
-      run_to_lem = true;
+      next_turns = true;
+      run_to = true;
       exactly = true;
-      in_time_lem = true;
+      in_time = true;
     })
 
 -- `Unbroken` fails alone, without `(strict)`. Node 3's high request stands as frame 1 starts, where it has
@@ -283,10 +283,10 @@ taken_as_normal =
       ends = [];
       limit = 115000;
       unbroken = false;
-      next_turns_lem = true;
-      run_to_lem = true;
+      next_turns = true;
+      run_to = true;
       exactly = false;
-      in_time_lem = true;
+      in_time = true;
     })
 
 -- `Unbroken` fails alone. The first list one bit time later: node 4's request isn't there at the
@@ -299,10 +299,10 @@ asked_late =
       ends = 136025 ∷ 126513 ∷ [];
       limit = 136024;
       unbroken = false;
-      next_turns_lem = true;
-      run_to_lem = true;
+      next_turns = true;
+      run_to = true;
       exactly = true;
-      in_time_lem = false;
+      in_time = false;
     })
 
 -- `Unbroken` fails alone. Node 4 withdraws its request as its first turn comes, and puts it up again
@@ -329,16 +329,16 @@ withdrawn_once =
       ends = 141024 ∷ 134512 ∷ [];
       limit = 136024;
       unbroken = false;
-      next_turns_lem = true;
-      run_to_lem = true;
+      next_turns = true;
+      run_to = true;
       exactly = true;
-      in_time_lem = false;
+      in_time = false;
     })
 
 -- `Unbroken` fails alone. Node 4's request stands before the frame's start and behind it, but
 -- is longer than what it has reserved from there on: the start makes it normal
-abbrev pub made_normal_lem : Worked
-made_normal_lem =
+abbrev pub made_normal : Worked
+made_normal =
     on01 4 2
     (reserve 0 4 2 1000 ⟶ taken
     ∷ reserve 150000 4 2 512 ⟶ taken
@@ -354,10 +354,10 @@ made_normal_lem =
       ends = [];
       limit = 216024;
       unbroken = false;
-      next_turns_lem = true;
-      run_to_lem = true;
+      next_turns = true;
+      run_to = true;
       exactly = false;
-      in_time_lem = true;
+      in_time = true;
     })
 
 -- `NextTurns` fails alone, at one step. Node 4 withdraws its second request as its
@@ -380,10 +380,10 @@ turn_missed =
       ends = 141024 ∷ 126512 ∷ [];
       limit = 136024;
       unbroken = true;
-      next_turns_lem = false;
-      run_to_lem = true;
+      next_turns = false;
+      run_to = true;
       exactly = true;
-      in_time_lem = false;
+      in_time = false;
     })
 
 -- `NextTurns` fails alone. Node 4 never asks for its second packet
@@ -403,10 +403,10 @@ asked_once =
       ends = 126512 ∷ [];
       limit = 136024;
       unbroken = true;
-      next_turns_lem = false;
-      run_to_lem = true;
+      next_turns = false;
+      run_to = true;
       exactly = false;
-      in_time_lem = true;
+      in_time = true;
     })
 
 -- `RunTo` fails alone. The steps are run up to node 4's second turn, and the instant there is still to be handled
@@ -418,15 +418,15 @@ not_run =
       ends = 126512 ∷ [];
       limit = 136024;
       unbroken = true;
-      next_turns_lem = true;
-      run_to_lem = false;
+      next_turns = true;
+      run_to = false;
       exactly = false;
-      in_time_lem = true;
+      in_time = true;
     })
 
 abbrev pub demand3_runs : List Worked
 demand3_runs =
-    at_the_limit ∷ over_the_start ∷ ring_at_the_limit ∷ behind_a_laptop ∷ asked_late ∷ withdrawn_once ∷ made_normal_lem ∷ taken_as_normal ∷ turn_missed
+    at_the_limit ∷ over_the_start ∷ ring_at_the_limit ∷ behind_a_laptop ∷ asked_late ∷ withdrawn_once ∷ made_normal ∷ taken_as_normal ∷ turn_missed
     ∷ asked_once ∷ not_run ∷ []
 
 -- row by row: the text is answered so, the calls on its hub are answered so, and the figures are those
@@ -457,9 +457,9 @@ module _ (x : Worked) where
 -- each of them holds or fails as the row has it
 pub record Shown (x : Worked) : Type 0 where
   pub unbroken : Says x.expected.unbroken (UnbrokenOf x)
-  pub next_turns_lem : Says x.expected.next_turns_lem (NextTurnsOf x)
-  pub run_to_lem : Says x.expected.run_to_lem (RunToOf x)
-  pub claim : Says (x.expected.exactly && x.expected.in_time_lem) (ClaimOf x)
+  pub next_turns : Says x.expected.next_turns (NextTurnsOf x)
+  pub run_to : Says x.expected.run_to (RunToOf x)
+  pub claim : Says (x.expected.exactly && x.expected.in_time) (ClaimOf x)
 
 unfoldable pub AllShown : List Worked → Type 0
 AllShown [] = Unit {0}

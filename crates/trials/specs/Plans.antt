@@ -53,5 +53,5 @@ abbrev pub two_deep : List ℕ
 two_deep = text_of (figures01 ++ "(hub" ∷ four_below ++ four_below ++ ")" ∷ [])
 
 -- three levels: hub 1 has hub 2 and node 5, hub 2 has hub 3 and nodes 3 and 4, hub 3 has nodes 1 and 2
-abbrev pub three-levels : List ℕ
-three-levels = text_of (figures01 ++ "(hub" ∷ "(hub" ∷ "(hub" ∷ "(node)" ∷ "(node)" ∷ ")" ∷ "(node)" ∷ "(node)" ∷ ")" ∷ "(node)" ∷ ")" ∷ [])
+abbrev pub three_levels : List ℕ
+three_levels = text_of (figures01 ++ "(hub" ∷ "(hub" ∷ "(hub" ∷ "(node)" ∷ "(node)" ∷ ")" ∷ "(node)" ∷ "(node)" ∷ ")" ∷ "(node)" ∷ ")" ∷ [])

@@ -1,6 +1,6 @@
 -- Request 8 of document 02: a place of a run where `StaysNormal` speaks. A high request that was taken
 -- as normal stands there while a reservation is in force, and the next step grants it.
-use Rattle.std.specs.Prelude.{ℕ, ◌≡◌, List, ◌∷◌, ◌++◌, take, drop}
+use Rattle.std.specs.Prelude.{◌≡◌, List, ◌∷◌, ◌++◌, take, drop}
 use Rattle.rules.specs.Call.{normal, step, grant}
 use Rattle.rules.specs.Run.{Entry}
 use Rattle.rules.specs.Words.{reserved}

@@ -2,7 +2,7 @@
 -- are read from their texts, so that they are runs of plans that are taken.
 use Rattle.std.specs.Prelude.{ℕ, List, [], ◌∷◌, ◌++◌, map}
 use Rattle.rules.specs.TravelRuns as rules
-use Rattle.rules.specs.TravelRuns.{Worked, one_round, two-rounds, high_rounds, once_more, with_a_rest, with_the_other_class}
+use Rattle.rules.specs.TravelRuns.{Worked, one_round, two_rounds, high_rounds, once_more, with_a_rest, with_the_other_class}
 use Rattle.rules.specs.Control.{control}
 use Rattle.plan.specs.Tables.{plan_of}
 use Rattle.plan.specs.Reading.{reading}
@@ -23,7 +23,7 @@ pub record TextRun : Type 0 where
 
 abbrev pub text_runs : List TextRun
 text_runs =
-    record { text = nested; nodes = 5; hubs = 3; run = one_round } ∷ record { text = nested; nodes = 5; hubs = 3; run = two-rounds }
+    record { text = nested; nodes = 5; hubs = 3; run = one_round } ∷ record { text = nested; nodes = 5; hubs = 3; run = two_rounds }
     ∷ record { text = plan01; nodes = 4; hubs = 2; run = high_rounds } ∷ record { text = plan01; nodes = 4; hubs = 2; run = once_more }
     ∷ record { text = plan01; nodes = 4; hubs = 2; run = with_a_rest } ∷ record { text = plan01; nodes = 4; hubs = 2; run = with_the_other_class } ∷ []
 

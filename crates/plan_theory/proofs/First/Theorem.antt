@@ -132,10 +132,10 @@ none_applies ls m c whole n k h (row_3_node d s z) =
     let late = whole n (follows ls n d) (omega arith) in
     omega arith
 
-first-line : (ls : Lines) (m : ℕ) → Clean WholePlans ls m → ((k : ℕ) (d : Follows WholePlans ls k) → WholePlans.size d.what ≡ k → m < k)
+first_line : (ls : Lines) (m : ℕ) → Clean WholePlans ls m → ((k : ℕ) (d : Follows WholePlans ls k) → WholePlans.size d.what ≡ k → m < k)
     → (n k : ℕ) → RowApplies ls n k → Which (leb n m) → m < n
-first-line ls m c whole n k r (yes' h) = absurd (none_applies ls m c whole n k (leb-true n m h) r)
-first-line ls m c whole n k r (no' h) = leb-false n m h
+first_line ls m c whole n k r (yes' h) = absurd (none_applies ls m c whole n k (leb-true n m h) r)
+first_line ls m c whole n k r (no' h) = leb-false n m h
 
 pub refused_decided : (text : List ℕ) (line number : ℕ) → RefusedAt text line number → DecidedBy text line number
 unfolding reading Decides
@@ -147,8 +147,8 @@ refused_decided text line number e =
       above = D.above;
       its_number = λ h. D.its_number ∙ later-sum D.above 1 h;
       row = applies (lines text) (D.above + 1) number row;
-      first-line = λ n k r. omega (arith, first-line (lines text) D.above D.clean D.whole n k r (which (leb n D.above)));
-      first_row_lem = λ k r. first_row_lem (lines text) (D.above + 1) number k row r;
+      first_line = λ n k r. omega (arith, first_line (lines text) D.above D.clean D.whole n k r (which (leb n D.above)));
+      first_row = λ k r. first_row_lem (lines text) (D.above + 1) number k row r;
       none_above = λ short s. ap (λ (x : Lines). (frame_line x (record { at = 0; number = 1 })).answer) s ∙ D.none_above;
       none_below = λ other s. D.none_below (lines other) (rw (← add-one D.above) s);
     }

@@ -79,9 +79,9 @@ figures_good fig n h t full e =
     let D = interrupt_is fig n h t full in
     let longest = ap longest_in (framing_is fig n h t full) in
     record {
-      frame_low_lem = omega (arith, r.frame_low);
+      frame_low = omega (arith, r.frame_low);
       frame_up = omega (arith, r.frame_high);
       overhead_up = omega (arith, r.overhead_high);
-      interrupt_low_lem = omega (arith, r.interrupt_low);
+      interrupt_low = omega (arith, r.interrupt_low);
       interrupt_up = omega (arith, r.interrupt_high);
     }

@@ -1,13 +1,12 @@
 -- One call of the hub reader, by what its line is. The code's proof cites these, a case each.
-use Prim.Native.Nat.{ℕ, zero, suc, ◌+◌, ◌-◌, ◌<◌, ◌≤◌}
-use mathlib.Core.Path.{◌≡◌, refl, sym, ap, ◌∙◌, subst}
-use mathlib.Core.Bool.{Bool, true, false, ◌||◌}
-use mathlib.Core.List.{List, [], ◌∷◌}
+use Prim.Native.Nat.{ℕ, suc, ◌+◌, ◌-◌, ◌<◌}
+use mathlib.Core.Path.{◌≡◌, ap, ◌∙◌}
+use mathlib.Core.Bool.{true, false}
+use mathlib.Core.List.{List}
 use native.Mathlib.Omega.{arith}
-use lib.Dec.{eqb, leb}
+use lib.Dec.{leb}
 use borrow.Author.Tests.{leb-false}
-use Rattle.rules.specs.Choice.{if◌then◌else◌}
-use Rattle.rules.proofs.Laws.Passes.{Which, which, yes', no', or_left, or-none}
+use Rattle.rules.proofs.Laws.Passes.{Which, which, yes', no'}
 use Rattle.text.specs.Line.{next_line}
 use Rattle.text.specs.Part.{part}
 use Rattle.text.specs.declared.Cursor.{Cursor}
@@ -18,7 +17,7 @@ use Rattle.plan_tree.specs.declared.Place.{Place}
 use Rattle.plan_tree.specs.declared.Part.{Part}
 use Rattle.plan_tree.specs.declared.Part.TheVariants.{Read, Stopped}
 use Rattle.plan_tree.specs.Kind.{kind_of}
-use Rattle.plan_tree.specs.Readers.{Answered, stop, read, cursor, moved, hub_reader, port_reader, port_by, closing, behind_port, is_close}
+use Rattle.plan_tree.specs.Readers.{Answered, stop, cursor, moved, hub_reader, port_reader, port_by, closing, behind_port, is_close}
 
 -- a reader behind the first line that is left
 one_less : (left : ℕ) → (left ≡ 0 → ⊥) → left ≡ suc (left - 1)

@@ -107,9 +107,9 @@ module _ (P : List ℕ) (R : Ready P) where
             rw e
             (omega (
               arith,
-              level_up p D (plan.hub_of_node P k) (R.node_port_lem k w).hub,
+              level_up p D (plan.hub_of_node P k) (R.node_port k w).hub,
               mend_few is_high most_levels (plan.hub_of_node P k) (plan.port_of_node P k)
-                  (counts_by is_high x (get_or s (granted_cell k) 0) (get_or s (force_cell k) 0)) s (R.node_port_lem k w).hub,
+                  (counts_by is_high x (get_or s (granted_cell k) 0) (get_or s (force_cell k) 0)) s (R.node_port k w).hub,
             ))
         go (no' e) = rw e (omega arith)
 

@@ -18,7 +18,7 @@ use Rattle.rules.specs.AnyMoment.{none, granted, grant_by, first_grant, breaks, 
 use Rattle.rules.proofs.Laws.Passes.{any_intro, and_both}
 use Rattle.rules.proofs.Laws.Clash.{clash}
 use Rattle.rules.proofs.Flat.Follows.{Follows}
-use Rattle.rules.proofs.Core.CallCases.{Event, asking, leaving, reserving, waiting, not-due, Course, refusal, event, quietly, granting, resting as rested}
+use Rattle.rules.proofs.Core.CallCases.{Event, asking, leaving, reserving, waiting, not_due, Course, refusal, event, quietly, granting, resting as rested}
 use Rattle.rules.proofs.Core.Acceptance.{acceptable}
 use Rattle.rules.proofs.Core.Instants.{advanced}
 use Rattle.rules.proofs.Flat.Turns.{Pointed, node_counts, node_chosen, pointed_turn, pointers_turn}
@@ -90,7 +90,7 @@ module _ (p : Plan) (fig : Figures p) (M : Machine) (follows : Follows p M) (k s
         → Progress (entry call taken ∷ since) (record { core = change call (advance p (time call) h.core); turn = h.turn })
     unfolding first_grant
     keep_event call e r same stands =
-        let early = not_behind p h.core (reach p start R G + 1) (time call) due_soon (not-due p h.core e r) in
+        let early = not_behind p h.core (reach p start R G + 1) (time call) due_soon (not_due p h.core e r) in
         waits (rw (n, event_none k e))
         (record {
           since_start = x.since_start;

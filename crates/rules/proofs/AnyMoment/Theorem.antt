@@ -96,7 +96,7 @@ module _ (p : Plan) (fig : Figures p) (M : Machine) (follows : Follows p M) (som
         omega (arith, left)
 
     held_here : (l : Line) → (made p M asked).hub.core.line ≡ l → Held (reach p t R (λ j. 0)) (made p M asked).hub.core.clock 0 l
-    held_here (busy e) q = until_end e (omega (arith, clock_here, (sound p fig M follows some asked).end_soon e q, fig.interrupt_low_lem))
+    held_here (busy e) q = until_end e (omega (arith, clock_here, (sound p fig M follows some asked).end_soon e q, fig.interrupt_low))
     held_here resting q = at_rest (omega (arith, clock_here)) refl
 
     at_first : Progress p fig M follows k t node R [] (made p M asked).hub

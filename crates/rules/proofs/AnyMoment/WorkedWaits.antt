@@ -62,7 +62,8 @@ module _ (x : Worked) where
       go (other d) =
           let i = f - frame x in
           let some = any_none (last x - frame x) _ e i (record { low = omega arith; up = omega arith }) in
-          let same = same_share_lem _ _ (not-false _ (any_none x.plan.nodes _ some j v)) in
+          let same : reserved x.plan j (frame x + i) (whole x) ≡ reserved x.plan j (frame x) (whole x) =
+          same_share_lem _ _ (not-false _ (any_none x.plan.nodes _ some j v)) in
           let at_f : frame x + i ≡ f = omega arith in
           subst (λ (y : ℕ). reserved x.plan j y (whole x) ≡ reserved x.plan j (frame x) (whole x)) at_f same
 

@@ -19,7 +19,7 @@ module _ (p : Plan) (s : Core) where
     passes11 = (passed11 s t).1 (record { late = o.late; soon = o.soon })
 
     passes12 : (row12 p s t).applies ≡ false
-    passes12 = (passed12 p s t).1 o.not-due
+    passes12 = (passed12 p s t).1 o.not_due
 
   all_passed : {call : Call} → Acceptable p s call → Clear (rows p s call)
   all_passed (asks c t k b a) = (
@@ -42,7 +42,7 @@ module _ (p : Plan) (s : Core) where
   on_time : (t : ℕ) → (row11 s t).applies ≡ false → (row12 p s t).applies ≡ false → OnTime p s t
   on_time t e d =
       let i = (passed11 s t).0 e in
-      record { soon = i.soon; late = i.late; not-due = (passed12 p s t).0 d }
+      record { soon = i.soon; late = i.late; not_due = (passed12 p s t).0 d }
 
   by_rows : {call : Call} → Event call → Clear (rows p s call) → Acceptable p s call
   by_rows (asking c t k b) r =

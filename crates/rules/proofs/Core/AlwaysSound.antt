@@ -14,7 +14,7 @@ use Rattle.rules.specs.Machine.{Machine, Hub, Outcome}
 use Rattle.rules.specs.Run.{made}
 use Rattle.rules.specs.Promises.{Askable, Acceptable, asks, leaves, reserves, waits}
 use Rattle.rules.proofs.Core.Acceptance.{acceptable}
-use Rattle.rules.proofs.Core.CallCases.{Event, in_time_lem, not-due, Course, refusal, event, quietly, granting, resting, course}
+use Rattle.rules.proofs.Core.CallCases.{Event, in_time_lem, not_due, Course, refusal, event, quietly, granting, resting, course}
 use Rattle.rules.proofs.Core.Requests.{put_up_high}
 use Rattle.rules.proofs.Core.Instants.{Seeking, seeks, none-counts, seeking}
 use Rattle.rules.proofs.Flat.Turns.{Pointed, pointed_start, pointed_rest, node_counts, pointed_turn}
@@ -76,7 +76,7 @@ module _ (p : Plan) (fig : Figures p) (M : Machine) (follows : Follows p M) wher
     pub arrival_sound : {call : Call} → Event call → first_row (rows p h.core call) ≡ accept → Sound p (advance p (time call) h.core)
     arrival_sound {call} e a =
         advance_sound p (time call) h.core ok.sound (in_time_lem p h.core call a).late
-        (λ f l. not_before_end p fig h.core (time call) f (not-due p h.core e a) l)
+        (λ f l. not_before_end p fig h.core (time call) f (not_due p h.core e a) l)
 
     -- the turn goes to a node that counts in the class sought
     pub turn_counts : (d : ℕ) (c : Class) → sought p (advance p d h.core) ≡ class c

@@ -50,11 +50,11 @@ module _ (p : Plan) (s : Core) where
   in_time_lem (until t) e = (passed11 s t).0 (clear (rows p s (until t)) e).0
   in_time_lem (step t) e = (passed11 s t).0 (clear (rows p s (step t)) e).0
 
-  pub not-due : {call : Call} → Event call → first_row (rows p s call) ≡ accept → before (due p s) (time call) ≡ false
-  not-due (asking c t k b) e = (clear (rows p s (ask c t k b)) e).1.0
-  not-due (leaving t k) e = (clear (rows p s (off t k)) e).1.0
-  not-due (reserving t k n b) e = (clear (rows p s (reserve t k n b)) e).1.0
-  not-due (waiting t) e = (clear (rows p s (until t)) e).1.0
+  pub not_due : {call : Call} → Event call → first_row (rows p s call) ≡ accept → before (due p s) (time call) ≡ false
+  not_due (asking c t k b) e = (clear (rows p s (ask c t k b)) e).1.0
+  not_due (leaving t k) e = (clear (rows p s (off t k)) e).1.0
+  not_due (reserving t k n b) e = (clear (rows p s (reserve t k n b)) e).1.0
+  not_due (waiting t) e = (clear (rows p s (until t)) e).1.0
 
 module _ (p : Plan) (M : Machine) (h : Hub M.State) where
   pub data Course : Call → Outcome M.State → Type 0 where

@@ -151,15 +151,18 @@ module _ (p : Plan) (past : List Entry) where
         same : frame_of p s.clock ≡ frame_of p t
         same = ap (λ (u : ℕ). frame_of p u) now
 
+        there : (reserved p k (frame_of p t) past).packets ≡ (s.force k).packets
+        there = ap (λ (f : ℕ). (reserved p k f past).packets) (sym same) ∙ ap (λ (r : Share). r.packets) (was.force k)
+
         new : (c : Class) → Tells p k (record { call = ask c t k b; answer = taken } ∷ past) (frame_of p s.clock) (asked c t b) (standing (put_up (s.force k) c) b)
         new normal = plain t b
         new high = go (which (eqb (s.force k).packets 0))
           where
             go : Which (eqb (s.force k).packets 0)
                 → Tells p k (record { call = ask high t k b; answer = taken } ∷ past) (frame_of p s.clock) (asked high t b) (standing (put_up (s.force k) high) b)
-            go (yes' z) = rw z (taken_normal t b (omega (arith, same)) (rw (← same, was.force k) (eqb-true (s.force k).packets 0 z)))
+            go (yes' z) = rw z (taken_normal t b (omega (arith, same)) (there ∙ eqb-true (s.force k).packets 0 z))
             go (no' z) =
-                rw z (kept t b (omega (arith, same)) (rw (← same, was.force k) (omega (arith, eqb-false (s.force k).packets 0 z))) (λ f m u. absurd (omega (arith, same))))
+                rw z (kept t b (omega (arith, same)) (omega (arith, there, eqb-false (s.force k).packets 0 z)) (λ f m u. absurd (omega (arith, same))))
 
     pub off-reads : (t k : ℕ) → Reads p (record { call = off t k; answer = taken } ∷ past) (with_request k Request.none s)
     unfolding reserved request_at high_grants

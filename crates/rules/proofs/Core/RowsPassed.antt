@@ -1,7 +1,7 @@
 -- Which calls pass each row: its test fails exactly where the rule holds, in orders and equations.
 use Prim.Native.Nat.{ℕ, ◌≤◌}
 use mathlib.Core.Path.{◌≡◌, refl}
-use mathlib.Core.Bool.{Bool, true, false, ◌||◌}
+use mathlib.Core.Bool.{Bool, false, ◌||◌}
 use mathlib.Core.Logic.{◌↔◌}
 use native.Mathlib.Omega.{arith}
 use lib.Dec.{ltb, eqb}
@@ -12,7 +12,7 @@ use Rattle.rules.specs.Call.{Class, normal, high}
 use Rattle.rules.specs.Core.{Core, Share, advance, Due, never, at, due}
 use Rattle.rules.specs.Drawn.{Within}
 use Rattle.rules.specs.Rows.{last_time, loads, row11, row12, row13, row14, row15, row15r, unreserved, row16, row17}
-use Rattle.rules.specs.Promises.{Holds, Allows, InRange, given_up_lem, packets}
+use Rattle.rules.specs.Promises.{Holds, Allows, InRange, given_up, packets}
 use Rattle.rules.proofs.Laws.Passes.{Which, which, yes', no', true-false, unless, or_both, or-none}
 use Rattle.rules.proofs.Laws.Clash.{clash}
 
@@ -57,14 +57,14 @@ module _ (p : Plan) where
   passed15r n b = (λ e. go (which (eqb n 0)) e, in_range_lem)
     where
       go : Which (eqb n 0) → (row15r p n b).applies ≡ false → InRange p n b
-      go (yes' z) e = rw (eqb-true n 0 z, eqb-true b 0 (not-false (eqb b 0) (rw z at e))) given_up_lem
+      go (yes' z) e = rw (eqb-true n 0 z, eqb-true b 0 (not-false (eqb b 0) (rw z at e))) given_up
       go (no' z) e =
           let some = (not-zero n).0 z in
           let range = simp failing at (rw z at e) in
           packets n b some range.0 range.1
 
       in_range_lem : {m a : ℕ} → InRange p m a → (row15r p m a).applies ≡ false
-      in_range_lem given_up_lem = refl
+      in_range_lem given_up = refl
       in_range_lem (packets m a some l u) = rw ((not-zero m).1 some) (simp failing (omega arith))
 
   -- by the reservation in force

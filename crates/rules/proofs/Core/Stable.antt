@@ -6,7 +6,7 @@ use mathlib.Core.List.{List, [], ◌∷◌, ◌++◌}
 use native.Mathlib.Omega.{arith}
 use Rattle.rules.specs.Plan.{Plan}
 use Rattle.rules.specs.Call.{Call, time}
-use Rattle.rules.specs.Core.{Share, frame_of, advance, counts_in, at}
+use Rattle.rules.specs.Core.{Share, frame_of, advance, counts_in}
 use Rattle.rules.specs.Drawn.{Figures}
 use Rattle.rules.specs.Machine.{Machine, Hub, Outcome}
 use Rattle.rules.specs.Run.{made}

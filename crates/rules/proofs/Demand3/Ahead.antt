@@ -65,7 +65,7 @@ passed-not-ahead (first e) w (after l u) = omega (arith, w.low)
 passed-not-ahead (first e) w (round_before l u) = omega (arith, w.low)
 
 -- and what lies ahead then, lay ahead before
-pub was_ahead : {n a b k j i : ℕ} → Ahead a k j → Behind n j b → Within n k → Ahead b k i → Ahead a k i
+pub was_ahead : {n a j b k i : ℕ} → Ahead a k j → Behind n j b → Within n k → Ahead b k i → Ahead a k i
 was_ahead (between l u) (next h) w (between x y) = between (omega arith) y
 was_ahead (between l u) (next h) w (after x y) = absurd (omega arith)
 was_ahead (between l u) (next h) w (round_before x y) = absurd (omega arith)

@@ -3,7 +3,6 @@
 use mathlib.Core.Path.{◌≡◌, refl, sym, subst}
 use mathlib.Core.List.{List, [], ◌∷◌, ◌++◌}
 use native.Mathlib.Omega.{arith}
-use lib.ListN.{length}
 use Rattle.rules.specs.Choice.{any, sum, first}
 use Rattle.rules.specs.Drawn.{Figures}
 use Rattle.rules.specs.Call.{high, Call, ask, reserve, until, step, taken, grant, rest}
@@ -34,7 +33,7 @@ answered = refl
 
 -- the frame figures are those of the example
 figures : Figures plan01
-figures = record { frame_low_lem = omega arith; frame_up = omega arith; overhead_up = omega arith; interrupt_low_lem = omega arith; interrupt_up = omega arith }
+figures = record { frame_low = omega arith; frame_up = omega arith; overhead_up = omega arith; interrupt_low = omega arith; interrupt_up = omega arith }
 
 high_before : High plan01 3 before
 unfolding before clock_at request_at reserved

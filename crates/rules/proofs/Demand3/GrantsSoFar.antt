@@ -17,7 +17,7 @@ use Rattle.rules.proofs.Flat.Follows.{Follows}
 use Rattle.rules.proofs.Laws.Frames.{next_start}
 use Rattle.rules.proofs.Flat.Turns.{Pointed}
 use Rattle.rules.proofs.Core.Sound.{Sound, Told}
-use Rattle.rules.proofs.Laws.Sums.{spent, room}
+use Rattle.rules.proofs.Laws.Sums.{room}
 use Rattle.rules.proofs.Demand3.Fair.{Fair, cost, reach}
 use Rattle.rules.proofs.Demand3.Standing.{Standing}
 use Rattle.rules.proofs.Demand3.LineWhileWaiting.{Held}

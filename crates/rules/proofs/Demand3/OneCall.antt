@@ -25,7 +25,7 @@ use Rattle.rules.proofs.Demand3.OneCallDone.{keep_done}
 -- k has exactly n high grants in f, the last of them in time
 pub record Finished (p : Plan) (k f : ℕ) (R : ℕ → Share) (past : List Entry) : Type 0 where
   pub exactly : length (high_grants p k f past) ≡ (R k).packets
-  pub in_time_lem : get_or (high_grants p k f past) 0 0 ≤ f * p.frame + delay_limit p k R
+  pub in_time : get_or (high_grants p k f past) 0 0 ≤ f * p.frame + delay_limit p k R
 
 -- the frame is not over
 pub record Unfinished (p : Plan) (f : ℕ) (s : Core) : Type 0 where
@@ -69,4 +69,4 @@ module _ (p : Plan) (fig : Figures p) (M : Machine) (follows : Follows p M) (k f
               soon = omega (arith, d.soon, within_frame p k f R past h.core facts r.in_frame fig w r.left r.size);
             };
       })
-  finished_or_not past h facts (done late all in_time_lem) = ◌⊎◌.inl (record { exactly = all; in_time_lem = in_time_lem })
+  finished_or_not past h facts (done late all in_time_lem) = ◌⊎◌.inl (record { exactly = all; in_time = in_time_lem })

@@ -10,7 +10,7 @@ use borrow.Author.Tests.{eqb-true}
 use Rattle.rules.specs.Choice.{if◌then◌else◌}
 use Rattle.rules.specs.Plan.{Plan}
 use Rattle.rules.specs.Call.{Class, normal, high, Call, step, taken}
-use Rattle.rules.specs.Core.{Share, bits_of, frame_of, advance, counts_in, at}
+use Rattle.rules.specs.Core.{Share, bits_of, frame_of, advance, counts_in}
 use Rattle.rules.specs.Machine.{Machine, Hub, Outcome}
 use Rattle.rules.specs.Run.{Entry}
 use Rattle.rules.specs.Words.{high_grants, delay_limit}

@@ -4,7 +4,6 @@ use mathlib.Core.Path.{◌≡◌, ap}
 use mathlib.Core.Bool.{true}
 use mathlib.Core.List.{List, ◌∷◌}
 use native.Mathlib.Omega.{arith}
-use lib.ListN.{length}
 use lib.Dec.{eqb}
 use borrow.Author.Tests.{eq-eqb}
 use Rattle.rules.specs.Plan.{Plan}
@@ -17,7 +16,7 @@ use Rattle.rules.specs.Run.{Entry}
 use Rattle.rules.specs.Words.{turn_in}
 use Rattle.rules.proofs.Flat.Follows.{Follows}
 use Rattle.rules.proofs.Laws.Frames.{started, starts, not_ended}
-use Rattle.rules.proofs.Core.CallCases.{in_time_lem, not-due, Course, refusal, event, quietly, granting, resting as rested}
+use Rattle.rules.proofs.Core.CallCases.{in_time_lem, not_due, Course, refusal, event, quietly, granting, resting as rested}
 use Rattle.rules.proofs.Core.Instants.{Advanced, across, inside, advanced}
 use Rattle.rules.proofs.Core.Sound.{Told}
 use Rattle.rules.proofs.Core.ClockAdvance.{advance_clock, due_late}
@@ -119,7 +118,7 @@ module _ (p : Plan) (fig : Figures p) (M : Machine) (follows : Follows p M) (k f
     keep_running (event call e a) told later =
         running
         (event_stays call (time call) (in_time_lem p s call a).late
-        (omega (arith, not_behind p s (reach p (f * p.frame) R s.granted + 1) (time call) running-due (not-due p s e a)))
+        (omega (arith, not_behind p s (reach p (f * p.frame) R s.granted + 1) (time call) running-due (not_due p s e a)))
         (advanced p (time call) s))
     keep_running (quietly t i n) told later = running r
     keep_running (granting t d c i e l n) told later =

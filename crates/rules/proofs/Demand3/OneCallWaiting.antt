@@ -20,7 +20,7 @@ use Rattle.rules.specs.Run.{Entry}
 use Rattle.rules.proofs.Laws.Passes.{Which, which, yes', no', put_other}
 use Rattle.rules.proofs.Flat.Follows.{Follows}
 use Rattle.rules.proofs.Laws.Frames.{started, not_started, not_ended, next_start}
-use Rattle.rules.proofs.Core.CallCases.{Event, not-due, Course, refusal, event, quietly, granting, resting as rested}
+use Rattle.rules.proofs.Core.CallCases.{Event, not_due, Course, refusal, event, quietly, granting, resting as rested}
 use Rattle.rules.proofs.Core.Instants.{Instant, line_ends, one_counts, one_held, no_instant, instant, Advanced, across, inside, advanced}
 use Rattle.rules.proofs.Core.Requests.{none_standing, reclassed_high, counts-stands}
 use Rattle.rules.proofs.Flat.Turns.{Pointed, pointed_rest, node_counts, pointed_turn}
@@ -60,13 +60,13 @@ module _ (p : Plan) (fig : Figures p) (M : Machine) (follows : Follows p M) (k f
             omega (arith, facts.sound.short k r.bits high r.stands, facts.sound.long k r.bits high r.stands)
 
         go : {x : Due} → Instant p s x → due p s ≡ x → DueBefore p s (f * p.frame + p.interrupt)
-        go (line_ends e l) q = record { time = e; is = q; soon = omega (arith, facts.sound.end_soon e l, fig.interrupt_low_lem) }
+        go (line_ends e l) q = record { time = e; is = q; soon = omega (arith, facts.sound.end_soon e l, fig.interrupt_low) }
         go (one_counts l c) q = record { time = s.clock; is = q; soon = omega arith }
         go (one_held l c h) q =
             record {
               time = (frame_of p s.clock + 1) * p.frame;
               is = q;
-              soon = (let n : frame_of p s.clock + 1 ≤ f = omega (arith, not_yet) in omega (arith, mul-le-mul_right p.frame n, some_packet, fig.interrupt_low_lem));
+              soon = (let n : frame_of p s.clock + 1 ≤ f = omega (arith, not_yet) in omega (arith, mul-le-mul_right p.frame n, some_packet, fig.interrupt_low));
             }
         go (no_instant l c h) q = absurd (counts-or-held p s k w (standing_before p k f R past s facts not_yet) c h)
 
@@ -81,7 +81,7 @@ module _ (p : Plan) (fig : Figures p) (M : Machine) (follows : Follows p M) (k f
     outside t e l = omega (arith, not_started p fig f s.clock early)
 
     line-held : (b t : ℕ) → f * p.frame + p.interrupt ≤ b → t ≤ b → (l : Line) → s.line ≡ l → Held b t 0 l
-    line-held b t low h (busy e) q = until_end e (omega (arith, facts.sound.end_soon e q, fig.interrupt_low_lem))
+    line-held b t low h (busy e) q = until_end e (omega (arith, facts.sound.end_soon e q, fig.interrupt_low))
     line-held b t low h resting q = at_rest h refl
 
     event_enters : (call : Call) (t : ℕ) → f * p.frame ≤ t → t < f * p.frame + p.interrupt → {c : Core} → Advanced p t s c
@@ -166,7 +166,7 @@ module _ (p : Plan) (fig : Figures p) (M : Machine) (follows : Follows p M) (k f
     keep_event call e a now after (no' b) =
         running
         (event_enters call (time call) (ltb-false (time call) (f * p.frame) b)
-        (not_behind p s (f * p.frame + p.interrupt) (time call) waiting_due (not-due p s e a)) (advanced p (time call) s) now after)
+        (not_behind p s (f * p.frame + p.interrupt) (time call) waiting_due (not_due p s e a)) (advanced p (time call) s) now after)
 
     -- the turn's node counts in the class sought
     some : (d : ℕ) (c : Class) → sought p (advance p d s) ≡ class c → any p.nodes (counts_in c (advance p d s)) ≡ true

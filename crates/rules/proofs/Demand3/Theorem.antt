@@ -108,7 +108,7 @@ module _ (p : Plan) (fig : Figures p) (M : Machine) (follows : Follows p M) (cal
   demand : {time : ℕ} → Unbroken p k f whole → NextTurns p k f whole (share k).packets → RunTo time whole → (f + 1) * p.frame ≤ time → Demand3 p k f whole
   demand {time} unbroken turns ended far =
       let at = place p M calls unbroken.since unbroken.before unbroken.place in
-      ⊎_elim (λ done. record { exactly = done.exactly; in_time_lem = omega (arith, done.in_time_lem) })
+      ⊎_elim (λ done. record { exactly = done.exactly; in_time = omega (arith, done.in_time) })
       (λ left. absurd (not_run_to p fig M follows some calls time (omega (arith, left.clock)) (later left) ended))
       (at_end unbroken turns at.earlier at.past at.newer at.split)
     where

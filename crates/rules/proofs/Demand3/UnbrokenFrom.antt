@@ -43,7 +43,7 @@ module _ (p : Plan) (fig : Figures p) (M : Machine) (follows : Follows p M) (k f
   module _ (past : List Entry) (h : Hub M.State) (facts : Facts p k f R past h.core) (opened : Opened p M follows h) where
     held : f * p.frame ≡ h.core.clock → h.core.granted k ≡ 0 → (l : Line) → h.core.line ≡ l
         → Held (reach p (f * p.frame) R h.core.granted) h.core.clock (h.core.granted k) l
-    held start z (busy e) q = until_end e (omega (arith, facts.sound.end_soon e q, fig.interrupt_low_lem))
+    held start z (busy e) q = until_end e (omega (arith, facts.sound.end_soon e q, fig.interrupt_low))
     held start z resting q = at_rest (omega arith) z
 
     pub at_start : h.core.clock ≤ f * p.frame → high_grants p k f past ≡ [] → GrantsSoFar p M follows k f R past h

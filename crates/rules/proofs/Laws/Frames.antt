@@ -9,7 +9,7 @@ use Rattle.rules.specs.Core.{frame_of}
 
 module _ (p : Plan) (fig : Figures p) where
   frame_some : 0 < p.frame
-  frame_some = omega (arith, fig.frame_low_lem)
+  frame_some = omega (arith, fig.frame_low)
 
   -- f × T ≤ t if and only if f ≤ t / T
   pub started : (f t : ℕ) → f * p.frame ≤ t → f ≤ frame_of p t

@@ -7,9 +7,9 @@ use Rattle.rules.specs.Control.{below, lowest, walk, led, nearest, choose_by}
 use Rattle.rules.specs.Machine.{perform}
 use Rattle.rules.specs.Run.{made}
 use Rattle.rules.specs.Looks.{walk_looks, nearest_looks, choose_looks}
-use Rattle.rules.specs.LooksRuns.{looks, figures, worked-looks, AllRight}
+use Rattle.rules.specs.LooksRuns.{looks, figures, worked_looks, AllRight}
 
-pub worked_right : AllRight worked-looks
+pub worked_right : AllRight worked_looks
 unfolding figures any sum first deepest advance counts_in counts held due sought below lowest walk led nearest choose_by perform made
     walk_looks nearest_looks choose_looks looks
 worked_right = refl

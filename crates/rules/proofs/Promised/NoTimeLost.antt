@@ -123,6 +123,7 @@ module _ (p : Plan) (M : Machine) (h : Hub M.State) where
     where
       go : {o : Outcome M.State} → Course p M h (step t) o → o.answer ≡ quiet → before (due p h.core) t ≡ false
       go (refusal c n a) q = clash (cc)
+      go (Course.event _ impossible _) q = elim impossible [ ]
       go (quietly t i n) q = n
       go (granting t d c i a l n) q = clash (cc)
       go (Course.resting t d i a l n) q = clash (cc)
@@ -133,6 +134,7 @@ module _ (p : Plan) (M : Machine) (h : Hub M.State) where
       go : {o : Outcome M.State} → Course p M h (step t) o → o.answer ≡ rest s m
           → (due p h.core ≡ at s) × (sought p (advance p s h.core) ≡ nothing)
       go (refusal c n a) q = clash (cc)
+      go (Course.event _ impossible _) q = elim impossible [ ]
       go (quietly t i n) q = clash (cc)
       go (granting t d c i a l n) q = clash (cc)
       go (Course.resting t d i a l n) q = let r : d ≡ s = cc in (cc, cc)

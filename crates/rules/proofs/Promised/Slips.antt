@@ -34,10 +34,10 @@ slips_shown = (
 pub narrow-figures : Figures narrow
 narrow-figures =
     record {
-      frame_low_lem = omega arith;
+      frame_low = omega arith;
       frame_up = omega arith;
       overhead_up = omega arith;
-      interrupt_low_lem = omega arith;
+      interrupt_low = omega arith;
       interrupt_up = omega arith;
     }
 

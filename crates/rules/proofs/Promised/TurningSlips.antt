@@ -10,10 +10,10 @@ use Rattle.rules.specs.Control.{Pointer, below, lowest, walk, led, nearest, choo
 use Rattle.rules.specs.Machine.{perform}
 use Rattle.rules.specs.Run.{made, answers}
 use Rattle.rules.specs.Slips.{Each}
-use Rattle.rules.specs.TurningSlips.{right_rule, counted_to_root, led_by, nearest_by, pair, handed-up, turning-slips}
+use Rattle.rules.specs.TurningSlips.{right_rule, counted_to_root, led_by, nearest_by, pair, handed_up, turning_slips}
 use Rattle.rules.proofs.Laws.Clash.{clash}
 
-pub turning_slips_shown : Each turning-slips
+pub turning_slips_shown : Each turning_slips
 unfolding any sum first advance counts_in counts held due sought below lowest walk led nearest choose_by perform made led_by nearest_by
 turning_slips_shown = (
   record { right = refl; wrong = refl; differ = λ e. clash (cc) },
@@ -24,7 +24,7 @@ turning_slips_shown = (
 )
 
 -- the old rule 2 answers the last run as the right hub does
-pub handed_up_from_root : answers pair (from_root pair) (handed-up counted_to_root).calls ≡ (handed-up counted_to_root).right_answers
+pub handed_up_from_root : answers pair (from_root pair) (handed_up counted_to_root).calls ≡ (handed_up counted_to_root).right_answers
 unfolding any sum first advance counts_in counts held due sought below lowest walk choose_from_root perform made
 handed_up_from_root = refl
 

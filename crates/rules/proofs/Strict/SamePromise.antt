@@ -43,9 +43,9 @@ module _ (b : Bool) (p : Plan) where
           exactly =
               ap (λ (l : List ℕ). length l) (sym (same_grants b p k f whole)) ∙ d.exactly
               ∙ ap (λ (r : Share). r.packets) (same-reserved b p k f whole);
-          in_time_lem =
+          in_time =
               subst₂ (λ (l : List ℕ) (r : ℕ → Share). get_or l 0 0 ≤ f * p.frame + delay_limit p k r) (same_grants b p k f whole)
-              (λ i j. same-reserved b p j f whole i) d.in_time_lem;
+              (λ i j. same-reserved b p j f whole i) d.in_time;
         }
 
   pub same_promise_of : (whole : List Entry) → Holds3 (with_strict b p) whole → Holds3 p whole

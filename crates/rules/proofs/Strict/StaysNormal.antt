@@ -32,8 +32,8 @@ not_high p k past x h =
     let same : x.put_up ≡ h.put_up = cc in
     not_both p k past x.put_up h.put_up same x.unreserved h.in_force
 
-not-put-up : (p : Plan) (k t : ℕ) (whole : List Entry) → packets_then p k t whole ≡ 0 → PutUp p k t whole → ⊥
-not-put-up p k t whole none x = omega (arith, none, x.left)
+not_put_up : (p : Plan) (k t : ℕ) (whole : List Entry) → packets_then p k t whole ≡ 0 → PutUp p k t whole → ⊥
+not_put_up p k t whole none x = omega (arith, none, x.left)
 
 -- the clock's advance makes no request high
 was_high : (p : Plan) (d : ℕ) (s : Core) (k b : ℕ) → (advance p d s).request k ≡ standing high b → s.request k ≡ standing high b
@@ -80,7 +80,7 @@ stays_normal p drawn calls =
     let follows = control_follows p drawn in
     record {
       not_high = not_high p;
-      not-put-up = λ k t. not-put-up p k t (made p (control p) calls).past;
+      not_put_up = λ k t. not_put_up p k t (made p (control p) calls).past;
       high_only = high_only p drawn.figures (control p) follows drawn.some_node calls;
       granted_normal = granted_normal p drawn.figures (control p) follows drawn.some_node calls;
     }

@@ -16,10 +16,10 @@ module _ (b : Bool) (p : Plan) where
   still_figures : Figures p → Figures (with_strict b p)
   still_figures x =
       record {
-        frame_low_lem = x.frame_low_lem;
+        frame_low = x.frame_low;
         frame_up = x.frame_up;
         overhead_up = x.overhead_up;
-        interrupt_low_lem = x.interrupt_low_lem;
+        interrupt_low = x.interrupt_low;
         interrupt_up = x.interrupt_up;
       }
 

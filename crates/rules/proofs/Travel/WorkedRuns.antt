@@ -10,10 +10,10 @@ use Rattle.rules.specs.Control.{below, lowest, walk, led, nearest, choose_by}
 use Rattle.rules.specs.Machine.{perform}
 use Rattle.rules.specs.Run.{Entry, made}
 use Rattle.rules.specs.Travel.{walk_returns, choose_returns, returns, latest_node, rounds, travel, unbroken, RunOfGrants}
-use Rattle.rules.specs.TravelRuns.{Worked, whole, up_to, since, starts, figures, worked-runs, AllRight}
+use Rattle.rules.specs.TravelRuns.{Worked, whole, up_to, since, starts, figures, worked_runs, AllRight}
 use Rattle.rules.proofs.Laws.Passes.{true-false, and_both}
 
-pub worked_right : AllRight worked-runs
+pub worked_right : AllRight worked_runs
 unfolding figures any sum first advance counts_in counts held due sought below lowest walk led nearest choose_by perform made
     walk_returns choose_returns returns latest_node rounds travel unbroken
 worked_right = refl

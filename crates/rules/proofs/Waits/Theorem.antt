@@ -12,7 +12,7 @@ use Rattle.rules.specs.Machine.{Machine, Hub, Outcome, perform}
 use Rattle.rules.specs.Control.{control}
 use Rattle.rules.specs.Run.{Entry, Made, made}
 use Rattle.rules.specs.Words.{clock_at, High}
-use Rattle.rules.specs.WaitWords.{Stand, absent, stands, up_at, stand_at}
+use Rattle.rules.specs.WaitWords.{absent, stands, up_at, stand_at}
 use Rattle.rules.specs.Waits.{come_to, watch, wait_of, Timed, watched, entries_of, stand_of, WaitTold, Waits}
 use Rattle.rules.proofs.Flat.Follows.{Follows}
 use Rattle.rules.proofs.Flat.Turns.{node_counts}
@@ -138,7 +138,7 @@ waits p drawn calls =
       unaffected = unaffected p (control p) calls;
       same_hub = same_hub p (control p) calls;
       recorded_told = recorded_told p drawn.figures (control p) follows drawn.some_node calls;
-      waits_told_lem = waits_told_lem p drawn.figures (control p) follows drawn.some_node calls;
+      waits_told = waits_told_lem p drawn.figures (control p) follows drawn.some_node calls;
       high_told = high_told p drawn.figures (control p) follows drawn.some_node calls;
       one_start = one_start_more p drawn.figures (control p) follows drawn.some_node calls;
     }

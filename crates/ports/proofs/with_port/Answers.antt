@@ -1,0 +1,26 @@
+-- `ports::with_port` meets its contract.
+use mathlib.Core.Path.{◌≡◌, ap, ◌∙◌}
+use mathlib.Core.Logic.{⊎_elim}
+use Prim.Native.Nat.{ℕ, suc, ◌-◌}
+use native.Mathlib.Omega.{arith}
+use borrow.Author.Tests.{ltb-true, ltb-false}
+use Rattle.ports.specs.Ports.{with_port}
+use Rattle.ports.specs.Mask.{shows, mask_of}
+use Rattle.ports.proofs.Changing.{with_port_lem, with_no_port}
+use Rattle.ports.proofs.with_port.Goals as goal
+
+pub returns-then-port-lt1 : goal.returns-then-port-lt1
+returns-then-port-lt1 c =
+    let a = c.args in
+    with_no_port 32 a.mask a.port a.shown c.ranges.mask.fits
+    (⊎_elim (λ w. omega arith) (λ w. omega arith) c.then-port-lt1.either)
+
+pub overflow_shl-result : goal.overflow_shl-result
+overflow_shl-result c = omega (arith, ltb-false)
+
+pub returns : goal.returns
+returns c =
+    let a = c.args in
+    let e : suc (a.port - 1) ≡ a.port = omega arith in
+    with_port_lem 32 a.mask (a.port - 1) a.shown c.ranges.mask.fits (omega (arith, ltb-false))
+    ∙ ap (λ (p : ℕ). mask_of (with_port (shows a.mask) p a.shown)) e
