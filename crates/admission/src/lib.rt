@@ -2,8 +2,7 @@
 // No public function has a `requires`: each says its answer for every content of both tables.
 #![tactic(auto)]
 
-ghost use Rattle.std.specs.Prelude.{◌≡◌, not, ◌||◌, ◌+◌, ◌*◌, ◌/◌, ◌%◌, ltb, eqb};
-ghost use Rattle.rules.specs.Choice.{if◌then◌else◌};
+ghost use Rattle.std.specs.Prelude.{◌≡◌, not, ◌||◌, ◌+◌, ◌*◌, ◌/◌, ◌%◌, ltb, eqb, if◌then◌else◌};
 ghost use Rattle.rules.specs.Call.{reserve};
 ghost use Rattle.rules.specs.Rows.{first_row, row15r};
 ghost use Rattle.cells.specs.Layout.{half, share_code};

@@ -5,7 +5,7 @@ use mathlib.Core.Bool.{true, false}
 use mathlib.Core.List.{List}
 use native.Mathlib.Omega.{arith}
 use lib.ListN.{get_or}
-use Rattle.rules.specs.Choice.{if◌then◌else◌}
+use Rattle.std.specs.Prelude.{if◌then◌else◌}
 use Rattle.rules.proofs.Laws.Passes.{Which, which, yes', no', true-false}
 use Rattle.cells.specs.Calls.{perform_by}
 use Rattle.call_list.specs.Table.{call_at, is_kind, kinds_from, told_of, put_seven, list_from}

@@ -1,7 +1,6 @@
 -- What a list of calls made as one call promises: its number, both tables left behind, and that these calls,
 -- with the answers that then stand in the table, are a list of calls, so that all the demands hold of it.
-use Rattle.std.specs.Prelude.{ℕ, ◌<◌, ◌≡◌, true, false, List, ◌++◌, eqb}
-use Rattle.rules.specs.Choice.{if◌then◌else◌}
+use Rattle.std.specs.Prelude.{ℕ, ◌<◌, ◌≡◌, true, false, List, ◌++◌, eqb, if◌then◌else◌}
 use Rattle.rules.specs.Plan.{Plan}
 use Rattle.rules.specs.Run.{Entry}
 use Rattle.rules.specs.Waits.{WaitTold}

@@ -1,6 +1,5 @@
 -- The hub of `rules` that a plan's cells and a cascade's cells are.
-use Rattle.std.specs.Prelude.{ℕ, ◌-◌, min, Bool, true, false, ◌&&◌, List, leb, eqb, get_or}
-use Rattle.rules.specs.Choice.{if◌then◌else◌}
+use Rattle.std.specs.Prelude.{ℕ, ◌-◌, min, Bool, true, false, ◌&&◌, List, leb, eqb, get_or, if◌then◌else◌}
 use Rattle.rules.specs.Plan.{Plan, most_nodes}
 use Rattle.rules.specs.Call.{Class, normal, high}
 use Rattle.rules.specs.Core.{Core, none, nothing_reserved, Line, resting, busy}

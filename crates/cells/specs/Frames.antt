@@ -1,6 +1,5 @@
 -- The start of a frame, and the clock.
-use Rattle.std.specs.Prelude.{ℕ, zero, suc, Bool, List, ltb, get_or, set}
-use Rattle.rules.specs.Choice.{if◌then◌else◌}
+use Rattle.std.specs.Prelude.{ℕ, zero, suc, Bool, List, ltb, get_or, set, if◌then◌else◌}
 use Rattle.rules.specs.Plan.{Plan}
 use Rattle.rules.specs.Core.{reclassed, frame_of}
 use Rattle.cells.specs.Layout.{clock_cell, time_at, put_time, request_cell, force_cell, latest_cell, granted_cell, request_of, request_code, share_of}

@@ -1,6 +1,5 @@
 -- Where each number stands in the cascade's table, and how a number of several parts is coded in one or two cells.
-use Rattle.std.specs.Prelude.{ℕ, ◌+◌, ◌-◌, ◌*◌, ◌/◌, ◌%◌, Bool, true, false, List, ltb, eqb, get_or, set}
-use Rattle.rules.specs.Choice.{if◌then◌else◌}
+use Rattle.std.specs.Prelude.{ℕ, ◌+◌, ◌-◌, ◌*◌, ◌/◌, ◌%◌, Bool, true, false, List, ltb, eqb, get_or, set, if◌then◌else◌}
 use Rattle.rules.specs.Call.{Class, normal, high}
 use Rattle.rules.specs.Core.{Request, none, standing, Share}
 use Rattle.rules.specs.Control.{Pointer}

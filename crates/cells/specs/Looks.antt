@@ -1,6 +1,5 @@
 -- Looks at a hub over the cells: the counts of rules/specs/Looks.antt, beside the definitions of Turns and Calls, case by case.
-use Rattle.std.specs.Prelude.{ℕ, zero, suc, ◌+◌, Bool, List, ltb, eqb, get_or}
-use Rattle.rules.specs.Choice.{if◌then◌else◌}
+use Rattle.std.specs.Prelude.{ℕ, zero, suc, ◌+◌, Bool, List, ltb, eqb, get_or, if◌then◌else◌}
 use Rattle.rules.specs.Plan.{most_levels}
 use Rattle.rules.specs.Call.{Call, ask, off, reserve, until, step}
 use Rattle.rules.specs.Control.{most_looks}

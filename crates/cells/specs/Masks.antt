@@ -1,9 +1,8 @@
 -- "A hub sees of each port only which classes count there": the masks are
 -- kept, and a change at a node mends them from its hub up to the first
 -- hub that shows something as before, or nothing as before.
-use Rattle.std.specs.Prelude.{ℕ, zero, suc, ◌+◌, ◌-◌, Bool, true, false, ◌&&◌, ◌||◌, List, ltb, leb, get_or, set}
+use Rattle.std.specs.Prelude.{ℕ, zero, suc, ◌+◌, ◌-◌, Bool, true, false, ◌&&◌, ◌||◌, List, ltb, leb, get_or, set, if◌then◌else◌}
 use Rattle.std.specs.Bool.{beq}
-use Rattle.rules.specs.Choice.{if◌then◌else◌}
 use Rattle.rules.specs.Plan.{most_levels}
 use Rattle.rules.specs.Core.{is_class}
 use Rattle.ports.specs.Ports.{put_port, any_port}

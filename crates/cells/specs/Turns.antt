@@ -1,6 +1,5 @@
 -- "Control, hub by hub" over the cells: a look finds the port by the hub's mask, and the walk passes control until a node is found.
-use Rattle.std.specs.Prelude.{ℕ, zero, suc, ◌+◌, ◌-◌, ◌/◌, Bool, List, ltb, eqb, get_or, set}
-use Rattle.rules.specs.Choice.{if◌then◌else◌}
+use Rattle.std.specs.Prelude.{ℕ, zero, suc, ◌+◌, ◌-◌, ◌/◌, Bool, List, ltb, eqb, get_or, set, if◌then◌else◌}
 use Rattle.rules.specs.Plan.{Port, node, empty, hub, most_levels}
 use Rattle.rules.specs.Control.{most_looks}
 use Rattle.ports.specs.Mask.{shows, digit}

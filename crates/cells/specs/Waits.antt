@@ -1,6 +1,5 @@
 -- The times at which the nodes' standing requests were first put up (request 1 of document 02): the last two tables of the cells.
-use Rattle.std.specs.Prelude.{ℕ, zero, suc, ◌+◌, ◌-◌, ◌*◌, ◌/◌, ◌%◌, Bool, List, leb, get_or, set}
-use Rattle.rules.specs.Choice.{if◌then◌else◌}
+use Rattle.std.specs.Prelude.{ℕ, zero, suc, ◌+◌, ◌-◌, ◌*◌, ◌/◌, ◌%◌, Bool, List, leb, get_or, set, if◌then◌else◌}
 use Rattle.rules.specs.Plan.{Plan}
 use Rattle.rules.specs.Waits.{turns_normal, next_start}
 use Rattle.cells.specs.Layout.{two_32, time_at, clock_cell, request_cell, latest_cell, since_cell, since_high_cell, if_node, request_of, share_of}

@@ -1,7 +1,6 @@
 -- The worst case of a call: how many mask cells it writes, by the levels of the plan; at a frame's start by its
 -- nodes and hubs. The counts stand beside the definitions of Masks, Build, Frames and Calls, case by case.
-use Rattle.std.specs.Prelude.{ℕ, zero, suc, ◌+◌, Bool, true, false, ◌||◌, List, ltb, eqb, get_or, set}
-use Rattle.rules.specs.Choice.{if◌then◌else◌}
+use Rattle.std.specs.Prelude.{ℕ, zero, suc, ◌+◌, Bool, true, false, ◌||◌, List, ltb, eqb, get_or, set, if◌then◌else◌}
 use Rattle.rules.specs.Plan.{most_levels}
 use Rattle.rules.specs.Call.{Call, ask, off, reserve, until, step, time}
 use Rattle.ports.specs.Ports.{any_port}

@@ -7,7 +7,7 @@ use native.Mathlib.Omega.{arith}
 use native.Mathlib.Nat.{eq-or-lt_of_le}
 use borrow.Author.Tests.{eqb-true, ltb-true, ltb-false}
 use lib.Dec.{eqb, ltb}
-use Rattle.rules.specs.Choice.{if◌then◌else◌}
+use Rattle.std.specs.Prelude.{if◌then◌else◌}
 use Rattle.rules.specs.Drawn.{Within}
 use Rattle.rules.proofs.Laws.Passes.{Which, which, yes', no', true-false, and_both, or_cases, or-none}
 use Rattle.fit.specs.Fit.{cheapest}

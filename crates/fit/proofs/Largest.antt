@@ -7,7 +7,7 @@ use native.Mathlib.Omega.{arith}
 use native.Mathlib.Nat.{eq-or-lt_of_le, le_antisymm, mul_comm, le-div_iff_mul-le, div-lt_iff_lt-mul}
 use borrow.Author.Tests.{le-leb, lt-leb, leb-true, ltb-true, ltb-false}
 use lib.Dec.{leb, ltb}
-use Rattle.rules.specs.Choice.{if◌then◌else◌}
+use Rattle.std.specs.Prelude.{if◌then◌else◌}
 use Rattle.rules.proofs.Laws.Passes.{Which, which, yes', no', and_both, true-false}
 use Rattle.fit.specs.Fit.{largest_below}
 

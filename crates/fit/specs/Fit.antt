@@ -1,6 +1,6 @@
 -- "After a 17, tell the planner the smallest single change that would turn it into a grant."
-use Rattle.std.specs.Prelude.{ℕ, zero, suc, ◌+◌, ◌-◌, Bool, not, ◌&&◌, ◌||◌, List, eqb, ltb, leb}
-use Rattle.rules.specs.Choice.{if◌then◌else◌, put}
+use Rattle.std.specs.Prelude.{ℕ, zero, suc, ◌+◌, ◌-◌, Bool, not, ◌&&◌, ◌||◌, List, eqb, ltb, leb, if◌then◌else◌}
+use Rattle.rules.specs.Choice.{put}
 use Rattle.rules.specs.Plan.{Plan, shortest}
 use Rattle.rules.specs.Core.{Core, nothing_reserved}
 use Rattle.rules.specs.Rows.{load, loads}

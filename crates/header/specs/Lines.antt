@@ -1,6 +1,5 @@
 -- A line of a plan's header at a cursor, by the scanner: a figure that must stand there, a line that may, and the root's `(hub`.
-use Rattle.std.specs.Prelude.{ℕ, ◌&&◌, List, leb}
-use Rattle.rules.specs.Choice.{if◌then◌else◌}
+use Rattle.std.specs.Prelude.{ℕ, ◌&&◌, List, leb, if◌then◌else◌}
 use Rattle.text.specs.Line.{next_line}
 use Rattle.text.specs.Part.{part}
 use Rattle.text.specs.Form.{form_at}

@@ -1,7 +1,6 @@
 -- The due instant where it is strictly before a bound. What is due may lie above 64 bits where a
 -- table's clock is close to 2^64; what is due before a bound of 64 bits never does, so the answer is right for every content.
-use Rattle.std.specs.Prelude.{ℕ, List, ltb}
-use Rattle.rules.specs.Choice.{if◌then◌else◌}
+use Rattle.std.specs.Prelude.{ℕ, List, ltb, if◌then◌else◌}
 use Rattle.rules.specs.Plan.{Plan}
 use Rattle.rules.specs.Core.{before}
 use Rattle.cells.specs.declared.Due.{Due}

@@ -3,8 +3,7 @@
 // A refusal leaves all that is lent as it was, but for a refused plan's line, which is told.
 #![tactic(auto)]
 
-ghost use Rattle.std.specs.Prelude.{◌≡◌, set};
-ghost use Rattle.rules.specs.Choice.{if◌then◌else◌};
+ghost use Rattle.std.specs.Prelude.{◌≡◌, set, if◌then◌else◌};
 ghost use Rattle.rules.specs.Plan.{longest};
 ghost use Rattle.rules.specs.Call.{ask, off, reserve, until, normal, high};
 ghost use Rattle.writer.specs.Write.{put_answer, put_buffer, put_row};

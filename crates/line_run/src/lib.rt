@@ -2,9 +2,8 @@
 // Lines are written into a lent buffer or only measured. No public function has a `requires`.
 #![tactic(auto)]
 
-ghost use Rattle.std.specs.Prelude.{◌≡◌, ◌+◌, ◌*◌, eqb};
+ghost use Rattle.std.specs.Prelude.{◌≡◌, ◌+◌, ◌*◌, eqb, if◌then◌else◌};
 ghost use Rattle.std.proofs.Math.Option.{some};
-ghost use Rattle.rules.specs.Choice.{if◌then◌else◌};
 ghost use Rattle.event.specs.Call.{call_of};
 ghost use Rattle.log_spec.specs.Cells.{more, steps_by, budget_by, before_by, call_by, event_line_by};
 ghost use Rattle.line_run.specs.LineRun.{Ran, line_by};

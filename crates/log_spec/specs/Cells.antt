@@ -1,8 +1,7 @@
 -- A pass over one text as it goes over the lent tables and the lent buffer: each line is
 -- written whole, or only measured, and the pass ends at the first that doesn't fit.
-use Rattle.std.specs.Prelude.{ℕ, zero, suc, ◌+◌, ◌*◌, Bool, true, false, List, [], ◌∷◌, eqb, length, get_or}
+use Rattle.std.specs.Prelude.{ℕ, zero, suc, ◌+◌, ◌*◌, Bool, true, false, List, [], ◌∷◌, eqb, length, get_or, if◌then◌else◌}
 use Rattle.std.proofs.Math.Option.{Option, none, some}
-use Rattle.rules.specs.Choice.{if◌then◌else◌}
 use Rattle.rules.specs.Call.{Call, time}
 use Rattle.text.specs.Part.{part}
 use Rattle.text.specs.Line.{next_line}

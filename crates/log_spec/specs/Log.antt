@@ -1,10 +1,10 @@
 -- "The log": the lines that the program writes for a text. It goes over a hub with the recorded times beside it,
 -- since a grant's line names its wait (request 1 of document 02).
-use Rattle.std.specs.Prelude.{ℕ, zero, suc, ◌+◌, ◌*◌, drop}
+use Rattle.std.specs.Prelude.{ℕ, zero, suc, ◌+◌, ◌*◌, drop, if◌then◌else◌}
 use mathlib.Core.List.{List, [], ◌∷◌, ◌++◌, flatten}
 use Rattle.std.proofs.Math.Option.{Option, none, some}
 use Rattle.text.specs.Line.{Lines, nothing, unended, ended, lines, next_number}
-use Rattle.rules.specs.Choice.{if◌then◌else◌, sum}
+use Rattle.rules.specs.Choice.{sum}
 use Rattle.rules.specs.Plan.{Plan}
 use Rattle.rules.specs.Call.{Call, step, time, Answer, taken, refused, grant, rest, quiet}
 use Rattle.rules.specs.Core.{Core, Request, standing, Line, resting, busy}

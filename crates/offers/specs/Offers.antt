@@ -1,6 +1,5 @@
 -- "A buyer planning a line offers up to 64 reservations, each as if alone against the present table."
-use Rattle.std.specs.Prelude.{ℕ, ◌%◌, ◌≡◌, not, ◌||◌, List, [], ◌∷◌, eqb, ltb, length}
-use Rattle.rules.specs.Choice.{if◌then◌else◌}
+use Rattle.std.specs.Prelude.{ℕ, ◌%◌, ◌≡◌, not, ◌||◌, List, [], ◌∷◌, eqb, ltb, length, if◌then◌else◌}
 use Rattle.rules.specs.Call.{reserve}
 use Rattle.rules.specs.Rows.{Row, first_row}
 use Rattle.writer.specs.Write.{overwrite}

@@ -2,8 +2,7 @@
 // No function has a `requires`: each says its answer and the whole buffer that it leaves, for every content of both tables.
 #![tactic(auto)]
 
-ghost use Rattle.std.specs.Prelude.{◌≡◌, eqb};
-ghost use Rattle.rules.specs.Choice.{if◌then◌else◌};
+ghost use Rattle.std.specs.Prelude.{◌≡◌, eqb, if◌then◌else◌};
 ghost use Rattle.admission.specs.Share.{share_row_with};
 ghost use Rattle.offers.specs.Offers.{offers_row, clock_of, OffersPromise};
 

@@ -1,6 +1,5 @@
 -- Offers are a call beside the hub: it has no table of its own, moves no clock and changes nothing, and the lists of demand 3 may hold it.
-use Rattle.std.specs.Prelude.{ℕ, ◌≡◌, List, ◌∷◌, eqb}
-use Rattle.rules.specs.Choice.{if◌then◌else◌}
+use Rattle.std.specs.Prelude.{ℕ, ◌≡◌, List, ◌∷◌, eqb, if◌then◌else◌}
 use Rattle.rules.specs.Plan.{Plan}
 use Rattle.beside.specs.Beside.{Reply, refusal, told, stays, Beside, Item, aside, projected}
 use Rattle.beside.specs.Extended.{Extended}

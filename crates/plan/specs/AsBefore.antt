@@ -1,8 +1,7 @@
 -- Reading as it was before request 8, without a line `(strict)`, and as document 01 alone has it, without a framing's line either.
 -- Both are one reading over what may stand behind the interrupt's line; figures and forms are read as everywhere.
-use Rattle.std.specs.Prelude.{ℕ, zero, suc, ◌+◌, Bool, true, false, List}
+use Rattle.std.specs.Prelude.{ℕ, zero, suc, ◌+◌, Bool, true, false, List, if◌then◌else◌}
 use Rattle.std.proofs.Math.Option.{Option, none, some}
-use Rattle.rules.specs.Choice.{if◌then◌else◌}
 use Rattle.rules.specs.Plan.{longest_in}
 use Rattle.text.specs.Line.{Lines, nothing, unended, ended, lines}
 use Rattle.text.specs.Form.{read_form}

@@ -1,8 +1,7 @@
 -- The whole plan by the scanner: the header's lines and the root's `(hub` at
 -- cursors, then the hub reader. It reads what `reading` of Reading reads;
 -- that is proved in proofs/.
-use Rattle.std.specs.Prelude.{ℕ, ◌+◌, ◌-◌, true, false, List, [], eqb}
-use Rattle.rules.specs.Choice.{if◌then◌else◌}
+use Rattle.std.specs.Prelude.{ℕ, ◌+◌, ◌-◌, true, false, List, [], eqb, if◌then◌else◌}
 use Rattle.rules.specs.Plan.{longest_in}
 use Rattle.text.specs.declared.Cursor.{Cursor}
 use Rattle.plan.specs.declared.Answer.TheVariants.{Taken, Refused}

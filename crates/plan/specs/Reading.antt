@@ -1,7 +1,6 @@
 -- A plan is read line by line: the first line from above, then the first row, decides. Rows 1 to 4 of the table.
-use Rattle.std.specs.Prelude.{ℕ, ◌+◌, Bool, true, false, ◌&&◌, ◌||◌, not, List, [], ◌∷◌, eqb, leb, ltb, length, get_or}
+use Rattle.std.specs.Prelude.{ℕ, ◌+◌, Bool, true, false, ◌&&◌, ◌||◌, not, List, [], ◌∷◌, eqb, leb, ltb, length, get_or, if◌then◌else◌}
 use Rattle.std.proofs.Math.Option.{Option, none, some}
-use Rattle.rules.specs.Choice.{if◌then◌else◌}
 use Rattle.rules.specs.Plan.{longest_in, most_hubs, most_ports, most_nodes, most_levels}
 use Rattle.text.specs.Line.{Lines, nothing, unended, ended, lines, next_number}
 use Rattle.text.specs.Form.{read_form}

@@ -1,6 +1,5 @@
 -- A plan's cells as a whole: where the figures stand, before the tree's cells, and the plan that all the cells are.
-use Rattle.std.specs.Prelude.{ℕ, Bool, not, List, eqb, get_or, set}
-use Rattle.rules.specs.Choice.{if◌then◌else◌}
+use Rattle.std.specs.Prelude.{ℕ, Bool, not, List, eqb, get_or, set, if◌then◌else◌}
 use Rattle.rules.specs.Plan as rules
 use Rattle.plan_tree.specs.Tables.{ports_cell, parent_cell, place_cell, level_cell, port_cell, port_of}
 

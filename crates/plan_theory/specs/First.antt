@@ -1,7 +1,6 @@
 -- "The first line from above, then the first row, decides": what it means of a refused plan, in the words of drawings.
-use Rattle.std.specs.Prelude.{ℕ, zero, suc, ◌+◌, ◌^◌, ◌≤◌, ◌<◌, ◌≡◌, false, List, [], ◌∷◌, eqb}
+use Rattle.std.specs.Prelude.{ℕ, zero, suc, ◌+◌, ◌^◌, ◌≤◌, ◌<◌, ◌≡◌, false, List, [], ◌∷◌, eqb, if◌then◌else◌}
 use Rattle.std.proofs.Math.Option.{Option, none, some}
-use Rattle.rules.specs.Choice.{if◌then◌else◌}
 use Rattle.text.specs.Line.{Lines, nothing, unended, ended, lines}
 use Rattle.text.specs.Form.{Small}
 use Rattle.plan_theory.specs.Tree.{Header, figures_of, one_number, Hub, draw, nodes_in, fits, good_figures, good_framing}

@@ -1,7 +1,6 @@
 -- The lines of a tree, as fixed byte strings.
-use Rattle.std.specs.Prelude.{ℕ, Bool, true, false, List, [], ◌∷◌}
+use Rattle.std.specs.Prelude.{ℕ, Bool, true, false, List, [], ◌∷◌, if◌then◌else◌}
 use Rattle.text.specs.Word.{is_word}
-use Rattle.rules.specs.Choice.{if◌then◌else◌}
 use Rattle.plan_tree.specs.declared.Kind.{Kind}
 use Rattle.plan_tree.specs.declared.Kind.TheVariants.{Close, Node, Empty, Hub, Other}
 

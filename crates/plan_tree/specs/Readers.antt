@@ -1,8 +1,7 @@
 -- The hub reader and the port reader, which call each other, with levels and lines left falling.
 -- They read what `hub_lines` of `plan`'s Reading reads; that is proved there. `levels` is how many
 -- levels may still stand below the hub being read, `left` bounds the lines that are left.
-use Rattle.std.specs.Prelude.{ℕ, zero, suc, ◌+◌, ◌-◌, Bool, true, false, ◌||◌, List, [], ◌∷◌, eqb, leb}
-use Rattle.rules.specs.Choice.{if◌then◌else◌}
+use Rattle.std.specs.Prelude.{ℕ, zero, suc, ◌+◌, ◌-◌, Bool, true, false, ◌||◌, List, [], ◌∷◌, eqb, leb, if◌then◌else◌}
 use Rattle.rules.specs.Plan.{most_hubs, most_ports, most_nodes, most_levels}
 use Rattle.text.specs.Line.{next_line}
 use Rattle.text.specs.Part.{part}

@@ -1,6 +1,5 @@
 -- A plan's tables as cells of 32 bits: where each hub's and each node's numbers stand, and what is stored as the tree is read.
-use Rattle.std.specs.Prelude.{ℕ, ◌+◌, ◌-◌, ◌*◌, Bool, true, false, List, [], ◌∷◌, eqb, leb, get_or, set, replicate}
-use Rattle.rules.specs.Choice.{if◌then◌else◌}
+use Rattle.std.specs.Prelude.{ℕ, ◌+◌, ◌-◌, ◌*◌, Bool, true, false, List, [], ◌∷◌, eqb, leb, get_or, set, replicate, if◌then◌else◌}
 use Rattle.rules.specs.Plan as rules
 
 -- Cells 0 to 7 are the figures', which `plan` names. Each hub has 36 cells: how many ports it has,

@@ -11,7 +11,8 @@ use lib.Dec.{ltb, leb, eqb}
 use lib.ListN.{length, get_or, set, length-set}
 use lib.Seq.{get_or-set_same, get_or-set_other}
 use borrow.Author.Tests.{ltb-true, ltb-false, leb-true, lt-ltb, le-ltb, le-leb, eqb-true, eqb-false, eq-eqb}
-use Rattle.rules.specs.Choice.{if◌then◌else◌, any}
+use Rattle.std.specs.Prelude.{if◌then◌else◌}
+use Rattle.rules.specs.Choice.{any}
 use Rattle.rules.specs.Plan.{Plan, Port, node, empty, hub, most_levels, most_hubs}
 use Rattle.rules.specs.Drawn.{Drawn, Within, Hung, Covers}
 use Rattle.rules.specs.Control.{seen, below}

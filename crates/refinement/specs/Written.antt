@@ -1,7 +1,7 @@
 -- The worst case of a call on the cells, in mask cells that it writes: within a frame by the
 -- levels of the plan, and not by its nodes; at a frame's start by its nodes and hubs.
-use Rattle.std.specs.Prelude.{ℕ, ◌+◌, ◌-◌, ◌*◌, ◌≤◌, ◌≡◌, true, false, List, eqb, get_or}
-use Rattle.rules.specs.Choice.{if◌then◌else◌, sum}
+use Rattle.std.specs.Prelude.{ℕ, ◌+◌, ◌-◌, ◌*◌, ◌≤◌, ◌≡◌, true, false, List, eqb, get_or, if◌then◌else◌}
+use Rattle.rules.specs.Choice.{sum}
 use Rattle.rules.specs.Plan.{Plan, most_hubs, levels}
 use Rattle.rules.specs.Call.{Call, ask, off, reserve, until, step}
 use Rattle.rules.specs.Core.{frame_of}

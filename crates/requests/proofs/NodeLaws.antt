@@ -7,7 +7,7 @@ use Prim.Native.Nat.{ℕ, ◌≤◌, ◌<◌}
 use native.Mathlib.Omega.{arith}
 use borrow.Author.Tests.{lt-ltb, le-ltb}
 use lib.ListN.{get_or, set}
-use Rattle.rules.specs.Choice.{if◌then◌else◌}
+use Rattle.std.specs.Prelude.{if◌then◌else◌}
 use Rattle.rules.specs.Plan.{most_nodes, most_levels}
 use Rattle.rules.proofs.Laws.Passes.{or_left, or_right, or_both}
 use Rattle.plan_tree.specs.Tables.{hub_of_node, port_of_node}

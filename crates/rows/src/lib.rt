@@ -2,8 +2,7 @@
 // No public function has a `requires`: each says its answer for every content of both tables.
 #![tactic(auto)]
 
-ghost use Rattle.std.specs.Prelude.{◌≡◌, ◌||◌, ltb, get_or};
-ghost use Rattle.rules.specs.Choice.{if◌then◌else◌};
+ghost use Rattle.std.specs.Prelude.{◌≡◌, ◌||◌, ltb, get_or, if◌then◌else◌};
 ghost use Rattle.rules.specs.Drawn.{Within};
 ghost use Rattle.rules.specs.Call.{ask, off, until};
 ghost use Rattle.rules.specs.Rows.{last_time, row13, row15, row16};

@@ -1,10 +1,5 @@
--- Small words that the other definitions share: a choice, one changed value of a table, and a pass over the numbers from 1.
-use Rattle.std.specs.Prelude.{ℕ, zero, suc, ◌+◌, Bool, true, false, ◌||◌, eqb}
-
-infix 5 if◌then◌else◌
-abbrev pub if◌then◌else◌ {ℓ} : {A : Type ℓ} → Bool → A → A → A
-if true then a else b = a
-if false then a else b = b
+-- Small words that the other definitions share: one changed value of a table, and a pass over the numbers from 1.
+use Rattle.std.specs.Prelude.{ℕ, zero, suc, ◌+◌, Bool, true, false, ◌||◌, eqb, if◌then◌else◌}
 
 -- the table f with v at k
 abbrev pub put : {A : Type 0} → (ℕ → A) → ℕ → A → ℕ → A

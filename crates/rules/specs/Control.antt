@@ -1,6 +1,6 @@
 -- "Control, hub by hub": rules 1 to 4, with rule 2 as request 4 of document 02 changed it.
-use Rattle.std.specs.Prelude.{ℕ, zero, suc, ◌+◌, ◌-◌, ◌*◌, Bool, true, false, ◌&&◌, eqb}
-use Rattle.rules.specs.Choice.{if◌then◌else◌, put, any, first}
+use Rattle.std.specs.Prelude.{ℕ, zero, suc, ◌+◌, ◌-◌, ◌*◌, Bool, true, false, ◌&&◌, eqb, if◌then◌else◌}
+use Rattle.rules.specs.Choice.{put, any, first}
 use Rattle.rules.specs.Plan.{Plan, Port, node, empty, hub, most_levels}
 use Rattle.rules.specs.Call.{Class, normal, same}
 use Rattle.rules.specs.Machine.{Machine, Turn, Rest}

@@ -1,6 +1,6 @@
 -- "The flat rule": one large two-priority round-robin hub.
-use Rattle.std.specs.Prelude.{ℕ, ◌+◌, ◌-◌, Bool, eqb}
-use Rattle.rules.specs.Choice.{if◌then◌else◌, first}
+use Rattle.std.specs.Prelude.{ℕ, ◌+◌, ◌-◌, Bool, eqb, if◌then◌else◌}
+use Rattle.rules.specs.Choice.{first}
 use Rattle.rules.specs.Plan.{Plan}
 use Rattle.rules.specs.Call.{Class, same}
 use Rattle.rules.specs.Machine.{Machine}

@@ -3,8 +3,7 @@
 -- A look is a search of a hub's ports from its pointer, or a test of a hub's pointer on the way up the holder's line.
 -- To read the root's two masks (whether a turn is due, and of what class), a hub's level (the moves up) or a mask
 -- that is mended is none; the masks that a call writes are counted in cells/specs/Written.antt.
-use Rattle.std.specs.Prelude.{ℕ, zero, suc, ◌+◌, ◌-◌, ◌*◌, ◌≤◌, ◌≡◌, Bool, true, List, ◌∷◌, ◌++◌, eqb}
-use Rattle.rules.specs.Choice.{if◌then◌else◌}
+use Rattle.std.specs.Prelude.{ℕ, zero, suc, ◌+◌, ◌-◌, ◌*◌, ◌≤◌, ◌≡◌, Bool, true, List, ◌∷◌, ◌++◌, eqb, if◌then◌else◌}
 use Rattle.rules.specs.Plan.{Plan, Port, node, empty, hub, most_levels, levels}
 use Rattle.rules.specs.Call.{Class, same, Answer, taken, refused, grant, rest, quiet}
 use Rattle.rules.specs.Core.{advance, counts_in}

@@ -1,6 +1,6 @@
 -- A hub is a core and a machine that gives turns. Events and the step are defined once, over any turn machine.
-use Rattle.std.specs.Prelude.{ℕ, ◌+◌, Bool}
-use Rattle.rules.specs.Choice.{if◌then◌else◌, put}
+use Rattle.std.specs.Prelude.{ℕ, ◌+◌, Bool, if◌then◌else◌}
+use Rattle.rules.specs.Choice.{put}
 use Rattle.rules.specs.Plan.{Plan}
 use Rattle.rules.specs.Call.{Class, normal, high, Call, ask, off, reserve, until, step, Answer, taken, refused, grant, rest, quiet}
 use Rattle.rules.specs.Core.{Core, resting, busy, none, bits_of, advance, counts_in, Due, never, at, due, before, Sought, nothing, class, sought}

@@ -1,6 +1,5 @@
 -- "The plan": its figures and its tree of hubs, as tables. Nodes, hubs and ports are numbered from 1; hub 1 is the root.
-use Rattle.std.specs.Prelude.{ℕ, zero, suc, max, Bool, eqb}
-use Rattle.rules.specs.Choice.{if◌then◌else◌}
+use Rattle.std.specs.Prelude.{ℕ, zero, suc, max, Bool, eqb, if◌then◌else◌}
 
 pub data Port : Type 0 where
   node : ℕ → Port

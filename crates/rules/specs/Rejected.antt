@@ -1,7 +1,7 @@
 -- "What each entry point must say", c: the hubs that must be rejected, nearest first. Each is the right hub but for one thing, and
 -- has a run on which it answers otherwise. (The last of the list is of plans: must-fail edits of `plan_tree` and `plan` make such hubs.)
-use Rattle.std.specs.Prelude.{ℕ, ◌+◌, ◌-◌, ◌*◌, ◌≡◌, Bool, true, false, List, [], ◌∷◌, map, leb, eqb}
-use Rattle.rules.specs.Choice.{if◌then◌else◌, put}
+use Rattle.std.specs.Prelude.{ℕ, ◌+◌, ◌-◌, ◌*◌, ◌≡◌, Bool, true, false, List, [], ◌∷◌, map, leb, eqb, if◌then◌else◌}
+use Rattle.rules.specs.Choice.{put}
 use Rattle.rules.specs.Plan.{Plan, levels}
 use Rattle.rules.specs.Call.{normal, high, Call, ask, off, reserve, until, step, time, Answer, taken, refused, grant, rest, quiet}
 use Rattle.rules.specs.Core.{Core, none, advance, due, before, nothing}

@@ -1,6 +1,6 @@
 -- "Where each no is said": the rows for events and steps, in the table's order, and what an accepted event changes.
-use Rattle.std.specs.Prelude.{ℕ, ◌+◌, ◌*◌, Bool, false, not, ◌||◌, List, [], ◌∷◌, ltb, eqb}
-use Rattle.rules.specs.Choice.{if◌then◌else◌, put, sum}
+use Rattle.std.specs.Prelude.{ℕ, ◌+◌, ◌*◌, Bool, false, not, ◌||◌, List, [], ◌∷◌, ltb, eqb, if◌then◌else◌}
+use Rattle.rules.specs.Choice.{put, sum}
 use Rattle.rules.specs.Plan.{Plan, shortest, longest}
 use Rattle.rules.specs.Call.{Class, normal, high, Call, ask, off, reserve, until, step}
 use Rattle.rules.specs.Core.{Core, Share, Request, none, standing, advance, due, before}

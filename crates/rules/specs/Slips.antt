@@ -1,6 +1,6 @@
 -- "Slips of the turn list": wrong hubs, each wrong in one rule, and for each a run on which it answers otherwise than the right hub.
-use Rattle.std.specs.Prelude.{ℕ, zero, suc, ◌+◌, ◌-◌, ◌≡◌, Bool, true, false, ◌&&◌, List, [], ◌∷◌, eqb}
-use Rattle.rules.specs.Choice.{if◌then◌else◌, any}
+use Rattle.std.specs.Prelude.{ℕ, zero, suc, ◌+◌, ◌-◌, ◌≡◌, Bool, true, false, ◌&&◌, List, [], ◌∷◌, eqb, if◌then◌else◌}
+use Rattle.rules.specs.Choice.{any}
 use Rattle.rules.specs.Plan.{Plan}
 use Rattle.rules.specs.Call.{Class, normal, high, same, Call, ask, off, reserve, until, step, Answer, taken, refused, grant, rest, quiet}
 use Rattle.rules.specs.Core.{Core, none, frame_of, advance, is_class, held, Due, never, at, due, before, sought}

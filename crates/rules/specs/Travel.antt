@@ -1,7 +1,6 @@
 -- Request 13 of document 02, "A round's travel": how far control travels in a run
 -- of grants of one class, by how often the root's pointer returns to port 1.
-use Rattle.std.specs.Prelude.{ℕ, zero, suc, ◌+◌, ◌-◌, ◌*◌, ◌≤◌, ◌≡◌, Bool, true, false, ◌&&◌, List, [], ◌∷◌, ◌++◌, map, eqb, leb}
-use Rattle.rules.specs.Choice.{if◌then◌else◌}
+use Rattle.std.specs.Prelude.{ℕ, zero, suc, ◌+◌, ◌-◌, ◌*◌, ◌≤◌, ◌≡◌, Bool, true, false, ◌&&◌, List, [], ◌∷◌, ◌++◌, map, eqb, leb, if◌then◌else◌}
 use Rattle.rules.specs.Plan.{Plan, Port, node, empty, hub}
 use Rattle.rules.specs.Call.{Class, same, Answer, taken, refused, grant, rest, quiet}
 use Rattle.rules.specs.Core.{advance, counts_in}

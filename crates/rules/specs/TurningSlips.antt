@@ -1,7 +1,6 @@
 -- Wrong hubs, each wrong in one part of rule 2 as request 4 of document 02 has
 -- it, and for each a run on which it answers otherwise than the right hub.
-use Rattle.std.specs.Prelude.{ℕ, zero, suc, ◌-◌, Bool, true, false, ◌&&◌, List, [], ◌∷◌, eqb, get_or}
-use Rattle.rules.specs.Choice.{if◌then◌else◌}
+use Rattle.std.specs.Prelude.{ℕ, zero, suc, ◌-◌, Bool, true, false, ◌&&◌, List, [], ◌∷◌, eqb, get_or, if◌then◌else◌}
 use Rattle.rules.specs.Plan.{Plan, node, empty, hub, most_levels}
 use Rattle.rules.specs.Call.{normal, high, same, ask, reserve, step, taken, grant}
 use Rattle.rules.specs.Machine.{Machine}

@@ -1,7 +1,7 @@
 -- The time at which a node's standing request was first put up (request 1 of document 02), in the manner of the words of
 -- demand 3: read off the calls and their answers alone. `past` is what stands before a place, the latest first.
-use Rattle.std.specs.Prelude.{ℕ, ◌+◌, ◌-◌, ◌*◌, Bool, not, ◌&&◌, List, [], ◌∷◌, leb, eqb}
-use Rattle.rules.specs.Choice.{if◌then◌else◌, first}
+use Rattle.std.specs.Prelude.{ℕ, ◌+◌, ◌-◌, ◌*◌, Bool, not, ◌&&◌, List, [], ◌∷◌, leb, eqb, if◌then◌else◌}
+use Rattle.rules.specs.Choice.{first}
 use Rattle.rules.specs.Plan.{Plan}
 use Rattle.rules.specs.Call.{Class, normal, high, same, Call, ask, off, reserve, until, step, Answer, taken, refused, grant, rest, quiet}
 use Rattle.rules.specs.Core.{Share, frame_of}

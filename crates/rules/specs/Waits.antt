@@ -1,7 +1,7 @@
 -- Request 1 of document 02, "Log by waiting time": the time at which a node's standing request was first put up is recorded beside
 -- the core, by a state that watches each call and its answer. So no turn looks at it.
-use Rattle.std.specs.Prelude.{ℕ, ◌+◌, ◌-◌, ◌*◌, ◌≤◌, ◌≡◌, Bool, ◌&&◌, ◌↔◌, List, [], ◌∷◌, ◌++◌, map, ltb}
-use Rattle.rules.specs.Choice.{if◌then◌else◌, put}
+use Rattle.std.specs.Prelude.{ℕ, ◌+◌, ◌-◌, ◌*◌, ◌≤◌, ◌≡◌, Bool, ◌&&◌, ◌↔◌, List, [], ◌∷◌, ◌++◌, map, ltb, if◌then◌else◌}
+use Rattle.rules.specs.Choice.{put}
 use Rattle.rules.specs.Plan.{Plan}
 use Rattle.rules.specs.Call.{Class, normal, high, Call, ask, off, reserve, until, step, time, Answer, taken, refused, grant, rest, quiet}
 use Rattle.rules.specs.Core.{Core, Share, Request, none, standing, frame_of, reclassed, advance, is_class}

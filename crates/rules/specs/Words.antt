@@ -1,7 +1,7 @@
 -- The words of "Demand 3 over a list of calls". Each is read off the calls and
 -- their answers alone: `past` is what stands before a place, the latest first.
-use Rattle.std.specs.Prelude.{ℕ, ◌+◌, ◌*◌, ◌≤◌, ◌<◌, min, ◌≡◌, Bool, false, ◌&&◌, List, [], ◌∷◌, ltb, leb, eqb}
-use Rattle.rules.specs.Choice.{if◌then◌else◌, sum}
+use Rattle.std.specs.Prelude.{ℕ, ◌+◌, ◌*◌, ◌≤◌, ◌<◌, min, ◌≡◌, Bool, false, ◌&&◌, List, [], ◌∷◌, ltb, leb, eqb, if◌then◌else◌}
+use Rattle.rules.specs.Choice.{sum}
 use Rattle.rules.specs.Plan.{Plan}
 use Rattle.rules.specs.Call.{Class, normal, high, Call, ask, off, reserve, until, step, time, Answer, taken, refused, grant, rest, quiet}
 use Rattle.rules.specs.Core.{Share, nothing_reserved, frame_of}

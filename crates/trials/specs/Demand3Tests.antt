@@ -1,7 +1,7 @@
 -- Demand 3's premises and its claim as tests of a list of calls and answers, the latest first. Each is true just
 -- where the word of `rules` that its comment names holds of the list: proofs/Demand3Tests.antt.
-use Rattle.std.specs.Prelude.{ℕ, ◌+◌, ◌-◌, ◌*◌, Bool, true, false, not, ◌&&◌, ◌||◌, List, [], ◌∷◌, ltb, leb, eqb, length, get_or}
-use Rattle.rules.specs.Choice.{if◌then◌else◌, any}
+use Rattle.std.specs.Prelude.{ℕ, ◌+◌, ◌-◌, ◌*◌, Bool, true, false, not, ◌&&◌, ◌||◌, List, [], ◌∷◌, ltb, leb, eqb, length, get_or, if◌then◌else◌}
+use Rattle.rules.specs.Choice.{any}
 use Rattle.rules.specs.Plan.{Plan}
 use Rattle.rules.specs.Call.{normal, high}
 use Rattle.rules.specs.Core.{Share, frame_of}

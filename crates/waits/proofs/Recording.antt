@@ -8,7 +8,7 @@ use native.Mathlib.Numerals.{unary_clauses}
 use lib.Dec.{ltb, leb}
 use lib.ListN.{get_or, set}
 use borrow.Author.Tests.{lt-ltb, le-ltb, lt-leb, le-leb, leb-true, leb-false, ltb-true, ltb-false, eq-eqb, ne_eqb}
-use Rattle.rules.specs.Choice.{if◌then◌else◌}
+use Rattle.std.specs.Prelude.{if◌then◌else◌}
 use Rattle.rules.specs.Plan.{most_nodes}
 use Rattle.rules.specs.Waits.{turns_normal}
 use Rattle.cells.specs.Layout.{two_32, request_cell, latest_cell, since_cell, since_high_cell, request_of, share_of}

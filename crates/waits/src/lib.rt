@@ -3,8 +3,7 @@
 // table that it leaves, for every content, by a definition of `cells`.
 #![tactic(auto)]
 
-ghost use Rattle.std.specs.Prelude.{◌≡◌, ◌+◌, ◌-◌, ◌*◌, ◌%◌, ◌≤◌, ltb, leb};
-ghost use Rattle.rules.specs.Choice.{if◌then◌else◌};
+ghost use Rattle.std.specs.Prelude.{◌≡◌, ◌+◌, ◌-◌, ◌*◌, ◌%◌, ◌≤◌, ltb, leb, if◌then◌else◌};
 ghost use Rattle.rules.specs.Plan.{most_nodes};
 ghost use Rattle.cells.specs.Layout.{two_32, half};
 ghost use Rattle.cells.specs.Masks.{stands_in};

@@ -8,7 +8,7 @@ use native.Mathlib.Omega.{arith}
 use borrow.Author.Tests.{eqb-true, eqb-false, le-leb, lt-leb}
 use lib.Dec.{eqb, leb}
 use lib.ListN.{length, drop, drop_of_length-le}
-use Rattle.rules.specs.Choice.{if◌then◌else◌}
+use Rattle.std.specs.Prelude.{if◌then◌else◌}
 use Rattle.rules.specs.Plan.{most_hubs, most_ports, most_levels}
 use Rattle.text.specs.Line.{Lines, nothing, unended, ended, lines, next_number, hand_out, next_line}
 use Rattle.text.specs.Part.{part}

@@ -4,7 +4,7 @@ use mathlib.Core.Path.{◌≡◌, refl, ap, ◌∙◌}
 use native.Mathlib.Omega.{arith}
 use lib.Dec.{eqb, leb}
 use borrow.Author.Tests.{eq-eqb, ne_eqb, le-leb, lt-leb}
-use Rattle.rules.specs.Choice.{if◌then◌else◌}
+use Rattle.std.specs.Prelude.{if◌then◌else◌}
 use Rattle.plan_theory.specs.Tree.{Port, node, empty, hub, Hub, close, port, ports_of, nodes_at, nodes_in, hubs_at, hubs_in}
 use Rattle.plan_theory.proofs.Tree.Room.{one_hub}
 

@@ -7,7 +7,7 @@ use native.Mathlib.Omega.{arith}
 use borrow.Author.Tests.{leb-false, eqb-false}
 use lib.Dec.{eqb, leb}
 use lib.ListN.{drop}
-use Rattle.rules.specs.Choice.{if◌then◌else◌}
+use Rattle.std.specs.Prelude.{if◌then◌else◌}
 use Rattle.rules.specs.Plan.{most_hubs, most_ports, most_nodes, most_levels}
 use Rattle.text.specs.Line.{Lines, nothing, unended, ended, lines, hand_out, next_line}
 use Rattle.text.specs.Word.{is_word}

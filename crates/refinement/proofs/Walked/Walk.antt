@@ -7,7 +7,7 @@ use native.Mathlib.Omega.{arith}
 use lib.Dec.{eqb}
 use lib.ListN.{get_or, set}
 use borrow.Author.Tests.{ne_eqb, eqb-true, eqb-false}
-use Rattle.rules.specs.Choice.{if◌then◌else◌}
+use Rattle.std.specs.Prelude.{if◌then◌else◌}
 use Rattle.rules.specs.Plan.{Plan, Port, node, empty, hub, most_levels}
 use Rattle.rules.specs.Drawn.{Within, Hung}
 use Rattle.rules.specs.Machine.{Turn}

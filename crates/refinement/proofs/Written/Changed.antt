@@ -8,7 +8,8 @@ use lib.Dec.{ltb, eqb}
 use lib.ListN.{get_or, set}
 use lib.Seq.{get_or-set_other}
 use borrow.Author.Tests.{eq-eqb, eqb-true, ltb-false}
-use Rattle.rules.specs.Choice.{if◌then◌else◌, put, sum}
+use Rattle.std.specs.Prelude.{if◌then◌else◌}
+use Rattle.rules.specs.Choice.{put, sum}
 use Rattle.rules.specs.Plan.{most_hubs}
 use Rattle.rules.specs.Drawn.{Within}
 use Rattle.rules.proofs.Laws.Passes.{Which, which, yes', no', sum_mono, sum-put}

@@ -7,7 +7,7 @@ use native.Mathlib.Omega.{arith}
 use native.Mathlib.Nat.{min-le_right}
 use lib.Dec.{ltb, eqb, leb}
 use lib.ListN.{get_or, set}
-use Rattle.rules.specs.Choice.{if◌then◌else◌}
+use Rattle.std.specs.Prelude.{if◌then◌else◌}
 use Rattle.rules.specs.Plan.{Port, node, empty, hub, most_levels, most_hubs}
 use Rattle.rules.specs.Control.{most_looks}
 use Rattle.rules.specs.Drawn.{Within}

@@ -9,7 +9,7 @@ use native.Mathlib.Nat.{eq-or-lt_of_le, min-le_left}
 use lib.Dec.{ltb}
 use lib.ListN.{get_or, set}
 use borrow.Author.Tests.{le-ltb}
-use Rattle.rules.specs.Choice.{if◌then◌else◌}
+use Rattle.std.specs.Prelude.{if◌then◌else◌}
 use Rattle.rules.specs.Plan.{Plan, most_levels, most_hubs, levels}
 use Rattle.rules.specs.Drawn.{Drawn, Within}
 use Rattle.rules.proofs.Laws.Passes.{Which, which, yes', no', true-false}

@@ -5,7 +5,8 @@ use mathlib.Core.Path.{◌≡◌, refl, sym, subst}
 use mathlib.Core.Bool.{Bool, true}
 use native.Mathlib.Omega.{arith}
 use borrow.Author.Tests.{ne_eqb}
-use Rattle.rules.specs.Choice.{if◌then◌else◌, any}
+use Rattle.std.specs.Prelude.{if◌then◌else◌}
+use Rattle.rules.specs.Choice.{any}
 use Rattle.rules.specs.Plan.{Plan, levels}
 use Rattle.rules.specs.Call.{Class, same}
 use Rattle.rules.specs.Drawn.{Drawn}

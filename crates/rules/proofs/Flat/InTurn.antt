@@ -5,7 +5,8 @@ use mathlib.Core.Bool.{Bool, true, false}
 use native.Mathlib.Omega.{arith}
 use lib.Dec.{eqb, ltb}
 use borrow.Author.Tests.{eq-eqb, ne_eqb, ltb-true, ltb-false}
-use Rattle.rules.specs.Choice.{if◌then◌else◌, any, first}
+use Rattle.std.specs.Prelude.{if◌then◌else◌}
+use Rattle.rules.specs.Choice.{any, first}
 use Rattle.rules.specs.Plan.{Plan}
 use Rattle.rules.specs.Flat.{in_turn}
 use Rattle.rules.proofs.Laws.Passes.{Found, missing, lowest, first_found, any_some, true-false, Which, which, yes', no'}

@@ -3,7 +3,7 @@ use Prim.Native.Nat.{ℕ, ◌≤◌}
 use mathlib.Core.Bool.{Bool, true, false}
 use native.Mathlib.Omega.{arith}
 use lib.Dec.{eqb}
-use Rattle.rules.specs.Choice.{if◌then◌else◌}
+use Rattle.std.specs.Prelude.{if◌then◌else◌}
 use Rattle.rules.specs.Plan.{longest_in}
 
 bounds : (b : Bool) → (longest_in 3 ≤ (if b then longest_in 5 else longest_in 3)) × ((if b then longest_in 5 else longest_in 3) ≤ longest_in 5)

@@ -4,7 +4,7 @@ use mathlib.Core.Path.{◌≡◌, refl}
 use mathlib.Core.Bool.{true, false}
 use mathlib.Core.List.{[], ◌∷◌}
 use lib.Dec.{eqb}
-use Rattle.rules.specs.Choice.{if◌then◌else◌}
+use Rattle.std.specs.Prelude.{if◌then◌else◌}
 use Rattle.rules.specs.Plan.{Plan, with_strict}
 use Rattle.rules.specs.Call.{Class, normal, high, Call, ask, off, reserve, until, step, taken, quiet}
 use Rattle.rules.specs.Core.{Share, Core, Line, resting, busy, standing, advance, Due, never, at, due_on, due, before, Sought, nothing, class, sought}
