@@ -10,7 +10,7 @@ use reference::hub::{Call, Hub};
 use reference::offers::Offer;
 use reference::plan::Plan;
 use reference::random::calls::{Caller, Style};
-use reference::random::Random;
+use reference::random::{plans, Random};
 
 /// What is done with a hub.
 #[derive(Clone, Debug, PartialEq)]
@@ -95,9 +95,16 @@ pub fn compare(seed: u64, plan: &Plan, acts: &[Act], found: &mut Found) {
 #[test]
 fn acts_survive_being_text() {
     let mut random = Random::new(4);
-    let plan = fit::any_plan(&mut random);
+    let plan = plans::plan(&mut random);
     let mut acts = offers::random_acts(&plan, &mut random, 300);
     acts.extend([Act::Offers(vec![], vec![]), Act::Offers(vec![Offer { k: 1, n: 0, b: 0 }], vec![])]);
-    acts.extend(fit::random_acts(&plan, &mut random, 300));
+    assert_eq!(text::acts_of(&text::acts_text(&plan, &acts)), Some((plan, acts)));
+}
+
+#[test]
+fn acts_with_fits_survive_being_text() {
+    let mut random = Random::new(4);
+    let plan = fit::any_plan(&mut random);
+    let acts = fit::random_acts(&plan, &mut random, 300);
     assert_eq!(text::acts_of(&text::acts_text(&plan, &acts)), Some((plan, acts)));
 }
