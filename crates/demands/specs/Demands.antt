@@ -1,7 +1,7 @@
 -- The demands, of the entry points as they can be called. Their contracts (plan/src/lib.rt,
 -- hub/src/lib.rt, requests/src/lib.rt) are these, for every text and every content of both tables:
 --
---   read(text, plan)         answers reading text .answer, and leaves `leaves (reading text) plan`
+--   read(text, plan)         answers (reading text).answer, and leaves `leaves (reading text) plan`
 --   fresh(s)                 leaves fresh_cells
 --   normal(p, s, t, k, b)    EventPromise P (ask normal t k b) s r z
 --   high(p, s, t, k, b)      EventPromise P (ask high t k b) s r z
@@ -10,7 +10,7 @@
 --   until(p, s, t)           EventPromise P (until t) s r z
 --   step(p, s, t)            StepPromise P t s r z, where r is a Grant with its wait, a Rest, Quiet or Refused
 --   lembuya_longest(p)       answers longest (plan_of P), the longest packet (lembuya/src/lib.rt)
---   lembuya_strict(p)        answers 1 where plan_of P .strict, else 0
+--   lembuya_strict(p)        answers 1 where (plan_of P).strict, else 0
 --
 -- where P and s are the cells at entry, r is the answer and z the cascade's cells at exit. Below: what
 -- follows for every text that is read (`PlanDemands`), and for every list of such calls from the fresh
