@@ -1,13 +1,13 @@
 #!/usr/bin/env python3
 """Brings the must-fail edits to the texts of today: each keeps its name, its comment, its place and its wrong meaning.
 
-usage: tools/port_edits.py --check             at the top: says of each edit whether each `old` stands exactly once, after the pairs before it
-       tools/port_edits.py OLD PORTED [FOLDER] turns the edits, from those of commit OLD, the last before the port (1a2df0d); PORTED is the commit in
-                                               which port.py and tools/port_names.py ran over it (0af44d4); what FOLDER has of an earlier run stands
+usage: tools/port_edits.py --check                at the top: says of each edit whether each `old` stands exactly once, after the pairs before it
+       tools/port_edits.py OLD PORTED [FOLDER]    turns the edits of commit OLD, the last before the port (1a2df0d); PORTED is the commit in
+                                                  which port.py and port_names.py ran over it (0af44d4); what an earlier run left in FOLDER stands
 
-An edit's text is turned by the scripts that turned the files: in a clone of OLD the edit is made, port.py and port_names.py run over the
-clone (and port_fields.py), and what differs from PORTED there is the edit in today's spelling. Many edits are made in one run, those of one file at lines far
-apart. What differs is then made in the file as it now stands, and the pairs are read off, a line each. It takes seven minutes a run.
+An edit's text is turned by the scripts that turned the files: in a clone of OLD the edit is made, port.py, port_names.py and port_fields.py
+run over the clone, and what differs there from PORTED is the edit in today's spelling. Many edits are made in one run, those of one file at
+lines far apart. What differs is then made in the file as it now stands, and the pairs are read off, a line each. It takes seven minutes a run.
 """
 import difflib
 import glob
@@ -18,8 +18,9 @@ import sys
 import tempfile
 
 FAR = 6
+TURN = ("port_names", "port_fields")
 # an edit's own names that the file had not in scope before the port either, so that it was refused for them: they are brought in
-LACKED = {"crates/rules/must-fail/due_at_its_own_instant.edit": ("specs/Core.antt", "◌||◌, ltb, eqb}", "◌||◌, leb, ltb, eqb}")}
+LACKED = {"crates/rules/must-fail/due_at_its_own_instant.edit": ("specs/Core.antt", "◌||◌, ltb", "◌||◌, leb, ltb")}
 PORT = "/opt/rattle/port"
 # port.py, with its notes of what it left in a folder of ours
 RUN = "import sys; sys.dont_write_bytecode = True; sys.path.insert(0, sys.argv[1]); import port; port.SAID = sys.argv[2]; sys.exit(port.main([]))"
@@ -127,7 +128,7 @@ def ported(old, folder, texts):
     for p, t in texts.items():
         write(f"{folder}/{p}", t)
     git("-c", "user.name=x", "-c", "user.email=x@x", "commit", "-qam", "edits", where=folder)
-    for words in ([sys.executable, "-c", RUN, PORT, folder + "-said"], *[[sys.executable, f"{here}/tools/{it}.py"] for it in ("port_names", "port_fields")]):
+    for words in ([sys.executable, "-c", RUN, PORT, folder + "-said"], *([sys.executable, f"{here}/tools/{it}.py"] for it in TURN)):
         ran = subprocess.run(words, cwd=folder, capture_output=True, text=True)
         if ran.returncode:
             print(ran.stdout[-2000:], ran.stderr[-2000:])
@@ -162,7 +163,7 @@ def joined(text):
 
 
 def changes(had, want, have):
-    """What makes `want` of `had`, but for the layout, as it stands in `have`: (start, end, text), each with a token on either side where its line has one."""
+    """What makes `want` of `had`, but for the layout, as it stands in `have`: (start, end, text), each with the tokens beside it on its line."""
     x, y, z = tokens(had), tokens(want), tokens(have)
     words = lambda ts: [t[0] for t in ts]
     on = {}
@@ -174,7 +175,7 @@ def changes(had, want, have):
     for tag, c, d, f, g in difflib.SequenceMatcher(None, words(x), words(y), False).get_opcodes():
         if tag != "equal":
             lo = 1 if c and f and near(c - 1, max(c - 1, min(c, d - 1))) else 0
-            hi = 1 if d < len(x) and g < len(y) and near(max(c, d - 1), d) else 0
+            hi = 1 if d < len(x) and g < len(y) and near(min(c - lo, d), d) else 0
             if parts and c - lo <= parts[-1][1] and near(parts[-1][0], min(d, len(x) - 1)):
                 c0, _, f0, _ = parts.pop()
                 parts.append((c0, d + hi, f0, g + hi))
@@ -280,7 +281,8 @@ def place(group, edits, notes, files, folder, base_folder):
             have, want, had = "\n".join(now[a:b]), "\n".join(it[k:l]), "\n".join(base[i:j])
             spans = changes(had, want, have)
             if [t[0] for t in tokens(had)] != [t[0] for t in tokens(have)]:
-                print(f"LOOK {e}: today's lines are not the ported ones{', and the edit has no place there' * (spans is None)}\n  ported: {had}\n  today:  {have}")
+                lost = ", and the edit has no place there" * (spans is None)
+                print(f"LOOK {e}: today's lines are not the ported ones{lost}\n  ported: {had}\n  today:  {have}")
             # where the old text stood: its first and last word that today's lines have
             text = edits[e][1][n][1]
             pos = files[p].find(text)
