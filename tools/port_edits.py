@@ -21,9 +21,17 @@ FAR = 6
 TURN = ("port_names", "port_fields")
 # an edit's own names that the file had not in scope before the port either, so that it was refused for them: they are brought in
 LACKED = {"crates/rules/must-fail/due_at_its_own_instant.edit": ("specs/Core.antt", "◌||◌, ltb", "◌||◌, leb, ltb")}
-PORT = "/opt/rattle/port"
-# port.py, with its notes of what it left in a folder of ours
-RUN = "import sys; sys.dont_write_bytecode = True; sys.path.insert(0, sys.argv[1]); import port; port.SAID = sys.argv[2]; sys.exit(port.main([]))"
+# edits of a test by whose text today's Rattle names the facts and goals: they keep the test and change what it looks at, to the same end,
+# so that the answers still find their names and the edit is refused for what it says
+ANEW = {
+    "crates/plan/must-fail/framing_5_in_any_interrupt.edit": [
+        ("src/lib.rt", "    if d < header::longest(framing as u32) + o {", "    let d: u64 = 4000000; if d < header::longest(framing as u32) + o {")
+    ],
+    "crates/text/must-fail/leading_zero_taken.edit": [
+        ("src/lib.rt", "    if b == 48 {", "    let first = b; let b: u8 = 47; if b == 48 {"),
+        ("src/lib.rt", "    digits_from(text, at + 1, end, wide(b - 48), 15)", "    let b = first; digits_from(text, at + 1, end, wide(b - 48), 15)"),
+    ],
+}
 TOKEN = re.compile(r'"(?:[^"\\]|\\.)*"|\w+(?:-\w+)*|◌[^\s(){}.;,]*|\[\]|&&|\|\||\+\+|[-<>=!]=|->|\S')
 
 
@@ -301,6 +309,8 @@ def place(group, edits, notes, files, folder, base_folder):
 
 
 def write_edit(e, crate, pairs, notes, out):
+    if e in ANEW:
+        return write(e, text_of(notes, ANEW[e]))
     brought = [LACKED[e]] if e in LACKED else []
     want = {}
     for p, (t, spans, _, _) in out.items():
