@@ -10,7 +10,7 @@ use Rattle.rules.specs.Plan.{Plan}
 use Rattle.rules.specs.Core.{Core}
 use Rattle.rules.specs.Rows.{load}
 use Rattle.rules.proofs.Laws.Passes.{Which, which, yes', no'}
-use Rattle.plan.specs.declared.Answer as plan
+use Rattle.plan.specs.declared.Answer.{Answer}
 use Rattle.plan.specs.declared.Answer.TheVariants.{Taken, Refused}
 use Rattle.writer.specs.declared.Put.{Put}
 use Rattle.writer.specs.declared.Put.TheVariants.{Behind, Short}
@@ -22,7 +22,7 @@ use Rattle.cells.specs.Decode.{plan_in, core_of}
 use Rattle.cells.specs.Calls.{step_by, step_answer, step_wait, perform_by}
 use Rattle.offers.specs.Offers.{Offer, answer_to, clock_of}
 use Rattle.fit.specs.declared.Fit.{Fit}
-use Rattle.fit.specs.declared.Fit.TheVariants.{Answer, Packets, Bits, Release, Nothing}
+use Rattle.fit.specs.declared.Fit.TheVariants as fit
 use Rattle.fit.specs.Fit.{frame_room, lower_packets, lower_bits, first_change, release_for, fit_within, fit_for}
 use Rattle.call_list.specs.Table.{Seven, seven_of, put_seven}
 use Rattle.call_list.proofs.Numbers.{step_seven, step_seven_lem}
@@ -30,19 +30,19 @@ use Rattle.lembuya.specs.Exports.{read_number, put_told, step_number, put_step, 
 
 -- ---- a plan
 
-abbrev Told : List ℕ → plan.Answer → ℕ → List ℕ → Type 0
+abbrev Told : List ℕ → Answer → ℕ → List ℕ → Type 0
 Told told x r z = (r ≡ read_number x) × (z ≡ put_told x told)
 
-pub taken_told : (told : List ℕ) (nodes hubs at line : ℕ) {x : plan.Answer} {z : List ℕ} {l : ℕ} → Taken nodes hubs at line ≡ x
+pub taken_told : (told : List ℕ) (nodes hubs at line : ℕ) {x : Answer} {z : List ℕ} {l : ℕ} → Taken nodes hubs at line ≡ x
     → z ≡ set (set (set (set told 0 nodes) 1 hubs) 2 at) 3 l → l ≡ line → Told told x 0 z
 unfolding read_number put_told
 taken_told told nodes hubs at line e written same =
     let z = set (set (set told 0 nodes) 1 hubs) 2 at in
-    (ap read_number e, written ∙ ap (λ (n : ℕ). set z 3 n) same ∙ ap (λ (y : plan.Answer). put_told y told) e)
+    (ap read_number e, written ∙ ap (λ (n : ℕ). set z 3 n) same ∙ ap (λ (y : Answer). put_told y told) e)
 
-pub refused_told : (told : List ℕ) (line number : ℕ) {x : plan.Answer} → Refused line number ≡ x → Told told x number (set told 3 line)
+pub refused_told : (told : List ℕ) (line number : ℕ) {x : Answer} → Refused line number ≡ x → Told told x number (set told 3 line)
 unfolding read_number put_told
-refused_told told line number e = (ap read_number e, ap (λ (y : plan.Answer). put_told y told) e)
+refused_told told line number e = (ap read_number e, ap (λ (y : Answer). put_told y told) e)
 
 -- ---- a step
 
@@ -76,11 +76,11 @@ stepped P t s answer {x} e cells left number =
 
 -- the number that is returned in each case: a change is told behind a 17
 unfoldable pub fit_number : Fit → ℕ
-fit_number (Answer r) = r
-fit_number (Packets n) = 17
-fit_number (Bits b) = 17
-fit_number (Release j) = 17
-fit_number Nothing = 17
+fit_number (fit.Answer r) = r
+fit_number (fit.Packets n) = 17
+fit_number (fit.Bits b) = 17
+fit_number (fit.Release j) = 17
+fit_number fit.Nothing = 17
 
 -- a change is told behind it, whichever it is
 change_number : (n b j : ℕ) → fit_number (first_change n b j) ≡ 17

@@ -1,23 +1,23 @@
 -- Answers as the numbers that a caller in C or Rust gets.
 use Rattle.std.specs.Prelude.{ℕ, List, set}
-use Rattle.plan.specs.declared.Answer as plan
+use Rattle.plan.specs.declared.Answer.{Answer}
 use Rattle.plan.specs.declared.Answer.TheVariants.{Taken, Refused}
 use Rattle.cells.specs.declared.Step.{Step}
 use Rattle.cells.specs.declared.Step.TheVariants as step
 use Rattle.cells.specs.Calls.{step_answer, step_wait}
 use Rattle.call_list.specs.Table.{seven_of, put_seven}
 use Rattle.fit.specs.declared.Fit.{Fit}
-use Rattle.fit.specs.declared.Fit.TheVariants.{Answer, Packets, Bits, Release, Nothing}
+use Rattle.fit.specs.declared.Fit.TheVariants as fit
 use Rattle.writer.specs.declared.Put.{Put}
 use Rattle.writer.specs.declared.Put.TheVariants.{Behind, Short}
 
 -- a plan's number: 0 where it is taken
-unfoldable pub read_number : plan.Answer → ℕ
+unfoldable pub read_number : Answer → ℕ
 read_number (Taken nodes hubs at line) = 0
 read_number (Refused line number) = number
 
 -- nodes, hubs, where the events start and on which line; a refused plan's line alone, and the rest stays
-unfoldable pub put_told : plan.Answer → List ℕ → List ℕ
+unfoldable pub put_told : Answer → List ℕ → List ℕ
 put_told (Taken nodes hubs at line) s = set (set (set (set s 0 nodes) 1 hubs) 2 at) 3 line
 put_told (Refused line number) s = set s 3 line
 
@@ -33,11 +33,11 @@ put_step x s =
 
 -- the case of a change and its number, behind a 17; any other answer writes neither
 unfoldable pub put_fit : Fit → List ℕ → List ℕ
-put_fit (Answer r) s = s
-put_fit (Packets n) s = set (set s 0 1) 1 n
-put_fit (Bits b) s = set (set s 0 2) 1 b
-put_fit (Release j) s = set (set s 0 3) 1 j
-put_fit Nothing s = set (set s 0 4) 1 0
+put_fit (fit.Answer r) s = s
+put_fit (fit.Packets n) s = set (set s 0 1) 1 n
+put_fit (fit.Bits b) s = set (set s 0 2) 1 b
+put_fit (fit.Release j) s = set (set s 0 3) 1 j
+put_fit fit.Nothing s = set (set s 0 4) 1 0
 
 -- where a log ends; what was there where it didn't fit
 unfoldable pub put_end : Put → List ℕ → List ℕ
