@@ -22,7 +22,7 @@ TURN = ("port_names", "port_fields")
 # an edit's own names that the file had not in scope before the port either, so that it was refused for them: they are brought in
 LACKED = {"crates/rules/must-fail/due_at_its_own_instant.edit": ("specs/Core.antt", "◌||◌, ltb", "◌||◌, leb, ltb")}
 # Edits of a test. Today's Rattle names a branch's facts and goals by the test's words and numbers, so that such an edit, made as it was,
-# is refused because an answer's name is gone, and would be where it changed nothing. These keep the words: the same wrong test on all inputs.
+# is refused because an answer's name is gone, and would be where it changed nothing. These keep the words and make the same wrong test.
 ANEW = {
     "admission/sixty_four_packets_refused": [("    if 64 < n {", "    if 64 < n / 64 + 64 {")],
     "control/always_resumed": [("    if before == marked {", "    let marked = before; if before == marked {")],
