@@ -70,8 +70,7 @@ offered text calls numbers buffer =
 ''', COMPUTED)
 
 FITTED = Question('fitted', '''use Rattle.offers.specs.Offers.{Offer, clock_of}
-use Rattle.fit.specs.declared.Fit.{Fit}
-use Rattle.fit.specs.declared.Fit.TheVariants.{Answer, Packets, Bits, Release, Nothing}
+use Rattle.fit.specs.Change.{Fit, Answer, Packets, Bits, Release, Nothing}
 
 -- what would make n packets of b bits of node k fit, at the clock behind the calls
 abbrev fitted : List ℕ → List Call → ℕ → ℕ → ℕ → Fit

@@ -1,7 +1,7 @@
 -- A list of the six calls and of calls beside the hub, each given what the last one left.
 use Rattle.std.specs.Prelude.{ℕ, ◌≡◌, true, List, [], ◌∷◌}
 use Rattle.rules.specs.Call.{Call, until, step, taken}
-use Rattle.cells.specs.declared.Step.{Step}
+use Rattle.cells.specs.Step.{Step}
 use Rattle.cells.specs.Fresh.{fresh_cells}
 use Rattle.cells.specs.Calls.{is_event, EventPromise, StepPromise, event_answer, step_answer, event_by}
 use Rattle.beside.specs.Beside.{Reply, refusal, told, Effect, stays, comes_to, Beside, entry, Item, of_hub, aside, effect_of}

@@ -13,8 +13,8 @@ use Rattle.event.specs.Call.{call_of}
 use Rattle.event.specs.declared.Event.{Event}
 use Rattle.event.specs.declared.Event.TheVariants.{Normal, High, Off, Reserve, Until}
 use Rattle.cells.specs.Calls.{EventPromise, row_by, Performed, event_left, perform_by}
-use Rattle.call_list.specs.Table.{call_at, is_kind, told_of}
-use Rattle.call_list.proofs.Numbers.{seven, event_seven}
+use Rattle.call_list.specs.Table.{call_at, is_kind, number_seven, told_of}
+use Rattle.call_list.proofs.Numbers.{event_seven}
 
 -- a kind that is no step's is an event's
 pub event_kind : (kind : ℕ) → is_kind kind ≡ true → (kind ≡ 6 → ⊥) → (1 ≤ kind) × (kind ≤ 5)
@@ -38,10 +38,10 @@ module _ (P cs s : List ℕ) (i : ℕ) where
 
   -- an event's number and cells are what `perform_by` says
   pub event_made : (e : Event) → call_of e ≡ call_at cs i → (r : ℕ) (z : List ℕ) → EventPromise P (call_of e) s r z
-      → (told_of (perform_by P (call_at cs i) s) ≡ seven r 0 0 0 0 0 0) × (z ≡ (perform_by P (call_at cs i) s).cells)
+      → (told_of (perform_by P (call_at cs i) s) ≡ number_seven r) × (z ≡ (perform_by P (call_at cs i) s).cells)
   unfolding event_left
   event_made e c r z q =
       let same = ap (λ (x : Call). perform_by P x s) (sym c) ∙ performs P e s in (
-        ap told_of same ∙ event_seven (row_by P (call_of e) s) ∙ ap (λ (n : ℕ). seven n 0 0 0 0 0 0) (sym q.0),
+        ap told_of same ∙ event_seven (row_by P (call_of e) s) ∙ ap number_seven (sym q.0),
         q.1 ∙ sym (ap (λ (x : Performed). x.cells) same),
       )

@@ -1,26 +1,23 @@
 -- The answers of the six calls and their seven numbers: each answer is told by its numbers.
+use Rattle.std.specs.Prelude.{Option, Some, None}
 use Prim.Native.Nat.{ℕ, ◌≤◌}
-use mathlib.Core.Path.{◌≡◌, refl, sym, ap, ◌∙◌}
-use mathlib.Core.Bool.{true, false}
+use mathlib.Core.Path.{◌≡◌, refl, sym, ap}
+use mathlib.Core.Bool.{Bool, true, false}
 use mathlib.Core.List.{List}
 use native.Mathlib.Omega.{arith}
 use borrow.Author.Tests.{ne_eqb, eqb-true}
 use lib.Dec.{eqb, ltb}
 use Rattle.rules.specs.Call.{Call, ask, off, reserve, until, step, Answer, refused}
 use Rattle.rules.proofs.Laws.Passes.{Which, which, yes', no'}
-use Rattle.cells.specs.declared.Due.{Due}
-use Rattle.cells.specs.declared.Due.TheVariants.{At, Never}
-use Rattle.cells.specs.declared.Sought.{Sought}
-use Rattle.cells.specs.declared.Sought.TheVariants as seek
-use Rattle.cells.specs.declared.Step.{Step}
-use Rattle.cells.specs.declared.Step.TheVariants.{Grant, Rest, Quiet, Refused}
+use Rattle.cells.specs.Sought.{Sought}
+use Rattle.cells.specs.Sought as seek
+use Rattle.cells.specs.Step.{class_number, Step}
 use Rattle.cells.specs.Decode.{plan_in}
 use Rattle.cells.specs.Frames.{advance_by}
 use Rattle.cells.specs.Instants.{due_by, sought_by}
 use Rattle.cells.specs.Calls.{row_by, class_numbered, grant_by, rest_by, handled_by, step_due, step_by, event_answer, step_answer, step_wait, event_left, perform_by}
 use Rattle.cells.proofs.RowNumbers.{row_number}
-use Rattle.call_list.specs.declared.Seven as code
-use Rattle.call_list.specs.Table.{Seven, class_code, seven_of, told_of, answer_of}
+use Rattle.call_list.specs.Table.{class_code, seven_of, step_seven, number_seven, told_of, answer_of}
 
 -- ---- an answer is told by its numbers
 
@@ -48,12 +45,12 @@ module _ (P : List ℕ) (s : List ℕ) where
   handled_told d (seek.Class true) r wait = refl
   handled_told d seek.Nothing r wait = refl
 
-  due_told : (x : Due) (t : ℕ) → Told (step_answer (step_due P x t s).answer)
+  due_told : (x : Option ℕ) (t : ℕ) → Told (step_answer (step_due P x t s).answer)
   unfolding step_due step_answer seven_of answer_of
-  due_told Never t = λ wait. refl
-  due_told (At d) t = go (which (ltb d t))
+  due_told None t = λ wait. refl
+  due_told (Some d) t = go (which (ltb d t))
     where
-      go : Which (ltb d t) → Told (step_answer (step_due P (At d) t s).answer)
+      go : Which (ltb d t) → Told (step_answer (step_due P (Some d) t s).answer)
       go (yes' l) = rw l (handled_told d (sought_by (advance_by P d s)) (advance_by P d s))
       go (no' l) = rw l (λ wait. refl)
 
@@ -75,70 +72,20 @@ module _ (P : List ℕ) (s : List ℕ) where
 
 -- ---- the numbers that the code stores
 
-abbrev pub seven : ℕ → ℕ → ℕ → ℕ → ℕ → ℕ → ℕ → Seven
-seven number time node class end moves wait =
-    record { number = number; time = time; node = node; class = class; end = end; moves = moves; wait = wait }
-
--- the code's seven numbers
-abbrev pub seven_of_lem : code.Seven → Seven
-seven_of_lem x = seven x.number x.time x.node x.class x.end x.moves x.wait
-
 -- an event's number is its answer's first, taken or refused
-pub event_seven : (n : ℕ) → seven_of (event_answer n) 0 ≡ seven n 0 0 0 0 0 0
+pub event_seven : (n : ℕ) → seven_of (event_answer n) 0 ≡ number_seven n
 unfolding seven_of
 event_seven n = go (which (eqb n 0))
   where
-    go : Which (eqb n 0) → seven_of (event_answer n) 0 ≡ seven n 0 0 0 0 0 0
+    go : Which (eqb n 0) → seven_of (event_answer n) 0 ≡ number_seven n
     go (yes' e) = rw (eqb-true n 0 e)
     go (no' e) = rw e
 
--- a step's class is 1 or 2
-Classed : Step → Type 0
-Classed (Grant d k class end moves wait) = class_code (class_numbered class) ≡ class
-Classed (Rest d moves) = Unit {0}
-Classed Quiet = Unit {0}
-Classed (Refused n) = Unit {0}
+-- a class is told by its number, 1 or 2
+pub class_told : (is_high : Bool) → class_number is_high ≡ class_code (class_numbered (class_number is_high))
+class_told false = refl
+class_told true = refl
 
-module _ (P : List ℕ) (s : List ℕ) where
-  handled_classed : (d : ℕ) (x : Sought) (r : List ℕ) → Classed (handled_by P d x r).answer
-  unfolding Classed handled_by grant_by rest_by
-  handled_classed d (seek.Class false) r = refl
-  handled_classed d (seek.Class true) r = refl
-  handled_classed d seek.Nothing r = tt
-
-  due_classed : (x : Due) (t : ℕ) → Classed (step_due P x t s).answer
-  unfolding Classed step_due
-  due_classed Never t = tt
-  due_classed (At d) t = go (which (ltb d t))
-    where
-      go : Which (ltb d t) → Classed (step_due P (At d) t s).answer
-      go (yes' l) = rw l (handled_classed d (sought_by (advance_by P d s)) (advance_by P d s))
-      go (no' l) = rw l tt
-
-  step_classed : (t : ℕ) → Classed (step_by P t s).answer
-  unfolding Classed step_by
-  step_classed t = go (which (eqb (row_by P (step t) s) 0))
-    where
-      go : Which (eqb (row_by P (step t) s) 0) → Classed (step_by P t s).answer
-      go (yes' e) = rw e (due_classed (due_by (plan_in P) s) t)
-      go (no' e) = rw e tt
-
--- the numbers of each answer of a step
-unfoldable pub step_seven : Step → Seven
-step_seven (Grant d k class end moves wait) = seven 1 d k class end moves wait
-step_seven (Rest d moves) = seven 2 d 0 0 0 moves 0
-step_seven Quiet = seven 3 0 0 0 0 0 0
-step_seven (Refused n) = seven n 0 0 0 0 0 0
-
-classed_seven : (x : Step) → Classed x → seven_of (step_answer x) (step_wait x) ≡ step_seven x
-unfolding Classed seven_of step_answer step_wait step_seven
-classed_seven (Grant d k class end moves wait) e = ap (λ (n : ℕ). seven 1 d k n end moves wait) e
-classed_seven (Rest d moves) e = refl
-classed_seven Quiet e = refl
-classed_seven (Refused n) e = refl
-
-pub step_seven_lem : (P : List ℕ) (t : ℕ) (s : List ℕ) {x : Step} → x ≡ (step_by P t s).answer
-    → told_of (perform_by P (step t) s) ≡ step_seven x
+pub step_seven_lem : (P : List ℕ) (t : ℕ) (s : List ℕ) {x : Step} → x ≡ (step_by P t s).answer → told_of (perform_by P (step t) s) ≡ step_seven x
 unfolding perform_by
-step_seven_lem P t s e =
-    classed_seven (step_by P t s).answer (step_classed P s t) ∙ ap step_seven (sym e)
+step_seven_lem P t s e = ap step_seven (sym e)

@@ -10,6 +10,9 @@ use lib.ListN.{length}
 use Rattle.rules.specs.Run.{Entry}
 use Rattle.rules.proofs.Laws.Passes.{Which, which, yes', no', and_both}
 use Rattle.plan.specs.Tables.{plan_of}
+use Rattle.cells.specs.declared.Misfit.{Misfit}
+use Rattle.cells.specs.declared.Misfit.TheVariants.{Malformed, TooLong}
+use Rattle.cells.specs.Step.{misfit_number}
 use Rattle.demands.specs.Demands.{Calls, Demands}
 use Rattle.call_list.specs.Table.{count_of, kinds_from, list_number, seven_at, list_from, entries}
 use Rattle.call_list.specs.Promise.{WaitIn, list_by, ListPromise}
@@ -31,11 +34,16 @@ ready cs ans = go (which (eqb (length cs % 5) 0 && kinds_from cs 0 (count_of cs)
     go (yes' k) (no' l) e =
         record { kinds = (and_both (eqb (length cs % 5) 0) (kinds_from cs 0 (count_of cs)) k).1; room = ltb-false (length ans) (count_of cs * 7) l }
 
+misfit_told : (m : Misfit) → misfit_number m ≡ 0 → ⊥
+misfit_told Malformed e = omega arith
+misfit_told TooLong e = omega arith
+
 module _ (P s cs ans : List ℕ) where
-  -- any other number, and both tables as they were
-  pub not_made : (r : ℕ) → r ≡ list_number cs ans → (r ≡ 0 → ⊥) → ListPromise P s cs ans r s ans
+  -- where the tables misfit both are as they were
+  pub not_made : (m : Misfit) → misfit_number m ≡ list_number cs ans → ListPromise P s cs ans (misfit_number m) s ans
   unfolding list_by
-  not_made r e d =
+  not_made m e =
+      let d = misfit_told m in
       let n : eqb (list_number cs ans) 0 ≡ false = ne_eqb (list_number cs ans) 0 (λ z. d (e ∙ z)) in
       record {
         number = e;
@@ -46,12 +54,11 @@ module _ (P s cs ans : List ℕ) where
         waits = λ text nodes hubs at line t same past made z. absurd (d z);
       }
 
-  -- 0, and both tables as the calls leave them
-  pub all_made : (r : ℕ) (z bs : List ℕ) → r ≡ list_number cs ans → r ≡ 0 → z ≡ (list_from P cs 0 (count_of cs) s ans).cells
+  -- else both are as the calls leave them
+  pub all_made : (z bs : List ℕ) → list_number cs ans ≡ 0 → z ≡ (list_from P cs 0 (count_of cs) s ans).cells
       → bs ≡ (list_from P cs 0 (count_of cs) s ans).answers → ListPromise P s cs ans 0 z bs
   unfolding list_by entries
-  all_made r z bs e f g h =
-      let n : list_number cs ans ≡ 0 = sym e ∙ f in
+  all_made z bs n g h =
       let y : eqb (list_number cs ans) 0 ≡ true = eq-eqb (list_number cs ans) 0 n in
       record {
         number = sym n;
@@ -63,9 +70,9 @@ module _ (P s cs ans : List ℕ) where
       }
     where
       calls_made : (past : List Entry) → Calls P past s → Calls P (entries cs bs (count_of cs) ++ past) z
-      calls_made past made = rw (g, h) (all_listed P cs s ans (ready cs ans (sym e ∙ f)).room past made)
+      calls_made past made = rw (g, h) (all_listed P cs s ans (ready cs ans n).room past made)
 
       waits_told_lem : ((before : List Entry) (r : List ℕ) → Calls P before r → Demands P (plan_of P) before r) → (past : List Entry) → Calls P past s
           → (i : ℕ) → i < count_of cs → WaitIn (plan_of P) (seven_at (list_from P cs 0 (count_of cs) s ans).answers i) (entries cs (list_from P cs 0 (count_of cs) s ans).answers i ++ past)
       waits_told_lem all past made i l =
-          list_waits P cs (plan_of P) past all 0 (count_of cs) s ans (omega (arith, (ready cs ans (sym e ∙ f)).room)) made i (omega arith) (omega arith)
+          list_waits P cs (plan_of P) past all 0 (count_of cs) s ans (omega (arith, (ready cs ans n).room)) made i (omega arith) (omega arith)

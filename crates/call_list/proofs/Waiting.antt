@@ -13,8 +13,7 @@ use Rattle.rules.specs.Call.{Class, normal, high, Call, ask, off, reserve, until
 use Rattle.rules.specs.Run.{Entry}
 use Rattle.rules.specs.Waits.{WaitTold}
 use Rattle.rules.proofs.Laws.Clash.{clash}
-use Rattle.cells.specs.declared.Step.{Step}
-use Rattle.cells.specs.declared.Step.TheVariants.{Grant, Rest, Quiet, Refused}
+use Rattle.cells.specs.Step.{Step, Grant, Rest, Quiet, Refused}
 use Rattle.cells.specs.Calls.{row_by, class_numbered, step_by, event_answer, step_answer, step_wait, Performed, event_left, perform_by}
 use Rattle.cells.proofs.RowNumbers.{row_number}
 use Rattle.demands.specs.Demands.{Calls, Demands}

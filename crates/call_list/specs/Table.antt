@@ -2,7 +2,9 @@
 use Rattle.std.specs.Prelude.{ℕ, zero, suc, ◌+◌, ◌*◌, ◌/◌, ◌%◌, Bool, true, false, ◌&&◌, List, [], ◌∷◌, eqb, leb, ltb, length, get_or, set, if◌then◌else◌}
 use Rattle.rules.specs.Call.{Class, normal, high, Call, ask, off, reserve, until, step, Answer, taken, refused, grant, rest, quiet}
 use Rattle.rules.specs.Run.{Entry}
-use Rattle.cells.specs.Calls.{Performed, perform_by, class_numbered}
+use Rattle.cells.specs.Step.{Step}
+use Rattle.cells.specs.Calls.{Performed, perform_by, class_numbered, step_answer, step_wait}
+use Rattle.call_list.specs.declared.Seven as code
 
 -- a call is kind, t, k, n and b: kind 1 is normal, 2 high, 3 off, 4 reserve, 5
 -- until, 6 step; a number that its kind doesn't have is not looked at
@@ -62,6 +64,18 @@ seven_of quiet wait = record { number = 3; time = 0; node = 0; class = 0; end = 
 
 abbrev pub told_of : Performed → Seven
 told_of o = seven_of o.answer o.wait
+
+abbrev pub step_seven : Step → Seven
+step_seven x = seven_of (step_answer x) (step_wait x)
+
+-- an answer that has only a number
+abbrev pub number_seven : ℕ → Seven
+number_seven n = record { number = n; time = 0; node = 0; class = 0; end = 0; moves = 0; wait = 0 }
+
+-- the seven numbers that the code has
+abbrev pub told_seven : code.Seven → Seven
+told_seven x =
+    record { number = x.number; time = x.time; node = x.node; class = x.class; end = x.end; moves = x.moves; wait = x.wait }
 
 -- the other way: the answer that seven numbers are
 unfoldable pub answer_of : Seven → Answer

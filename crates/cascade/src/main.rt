@@ -3,7 +3,6 @@
 #![tactic(auto)]
 
 use cells::Cascade;
-use input::Input;
 use plan_tree::Plan;
 
 // The log of a text to standard output, through what is lent.
@@ -27,8 +26,8 @@ fn main(rt: HostRuntime) {
     let mut cascade = [0u32; cells::CELLS];
     let mut out = [0u8; text_run::LONGEST_LOG];
     match input::read_all(&mut rt.stdin(), &mut text) {
-        Input::Read(n) => write_log(&rt, &text[..n], &mut plan, &mut cascade, &mut out),
-        Input::Failed => {
+        Ok(n) => write_log(&rt, &text[..n], &mut plan, &mut cascade, &mut out),
+        Err(_) => {
             let _ = rt.eprintln("cascade: standard input can't be read");
         }
     }

@@ -1,16 +1,12 @@
 -- What each call answers, and the cells that it leaves.
-use Rattle.std.specs.Prelude.{ℕ, ◌+◌, ◌≡◌, Bool, true, false, List, [], ◌∷◌, ltb, eqb, get_or, set, if◌then◌else◌}
+use Rattle.std.specs.Prelude.{ℕ, ◌+◌, ◌≡◌, Bool, true, false, List, [], ◌∷◌, ltb, eqb, get_or, set, if◌then◌else◌, Option, Some, None}
 use Rattle.rules.specs.Plan.{Plan}
 use Rattle.rules.specs.Call.{Class, normal, high, Call, ask, off, reserve, until, step, time, Answer, taken, refused, grant, rest, quiet}
 use Rattle.rules.specs.Core.{standing, bits_of, before}
 use Rattle.rules.specs.Rows.{Row, Verdict, accept, refuse, first_row, row11, row13, row14, row15, row15r, row16, row17, put_up}
-use Rattle.ports.specs.Mask.{digit}
-use Rattle.cells.specs.declared.Due.{Due}
-use Rattle.cells.specs.declared.Due.TheVariants.{At, Never}
-use Rattle.cells.specs.declared.Sought.{Sought}
-use Rattle.cells.specs.declared.Sought.TheVariants as seek
-use Rattle.cells.specs.declared.Step.{Step}
-use Rattle.cells.specs.declared.Step.TheVariants.{Grant, Rest, Quiet, Refused}
+use Rattle.cells.specs.Sought.{Sought}
+use Rattle.cells.specs.Sought as seek
+use Rattle.cells.specs.Step.{class_number, Step, Grant, Rest, Quiet, Refused}
 use Rattle.cells.specs.Layout.{end_cell, busy_cell, holder_cell, request_cell, force_cell, latest_cell, if_node, put_time, share_code, share_of, request_of, request_code}
 use Rattle.cells.specs.Decode.{plan_in, core_of}
 use Rattle.cells.specs.Masks.{put_request, grant_node}
@@ -74,10 +70,6 @@ resting s = set s busy_cell 0
 abbrev pub bits_at : ℕ → List ℕ → ℕ
 bits_at k s = if_node k (bits_of (request_of (get_or s (request_cell k) 0))) 0
 
--- class 1 is normal, 2 high
-abbrev pub class_number : Bool → ℕ
-class_number is_high = 1 + digit is_high
-
 module _ (P : List ℕ) where
   -- a grant at d to the turn's node, until d + b + O, with its wait
   unfoldable pub grant_by : ℕ → Bool → Turned → Stepped
@@ -96,9 +88,9 @@ module _ (P : List ℕ) where
   handled_by d (seek.Class is_high) s = grant_by d is_high (choose_by P is_high s)
   handled_by d seek.Nothing s = rest_by d s
 
-  unfoldable pub step_due : Due → ℕ → List ℕ → Stepped
-  step_due Never t s = record { answer = Quiet; cells = s }
-  step_due (At d) t s =
+  unfoldable pub step_due : Option ℕ → ℕ → List ℕ → Stepped
+  step_due None t s = record { answer = Quiet; cells = s }
+  step_due (Some d) t s =
       if ltb d t then handled_by d (sought_by (advance_by P d s)) (advance_by P d s) else record { answer = Quiet; cells = s }
 
   unfoldable pub step_by : ℕ → List ℕ → Stepped

@@ -5,9 +5,11 @@ pub mod Masks
 pub mod Waits
 pub mod Build
 pub mod Frames
+pub mod Sought
 pub mod Instants
 pub mod Turns
 pub mod Fresh
+pub mod Step
 pub mod Calls
 pub mod Run
 pub mod Looks

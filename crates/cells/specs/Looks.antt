@@ -1,16 +1,14 @@
 -- Looks at a hub over the cells: the counts of rules/specs/Looks.antt, beside the definitions of Turns and Calls, case by case.
-use Rattle.std.specs.Prelude.{ℕ, zero, suc, ◌+◌, Bool, List, ltb, eqb, get_or, if◌then◌else◌}
+use Rattle.std.specs.Prelude.{ℕ, zero, suc, ◌+◌, Bool, List, ltb, eqb, get_or, if◌then◌else◌, Option, Some, None}
 use Rattle.rules.specs.Plan.{most_levels}
 use Rattle.rules.specs.Call.{Call, ask, off, reserve, until, step}
 use Rattle.rules.specs.Control.{most_looks}
 use Rattle.ports.specs.Mask.{digit}
 use Rattle.plan_tree.specs.Tables as plan
-use Rattle.cells.specs.declared.Due.{Due}
-use Rattle.cells.specs.declared.Due.TheVariants.{At, Never}
 use Rattle.cells.specs.declared.Look.{Look}
 use Rattle.cells.specs.declared.Look.TheVariants.{Node, Pass, Round, Stop}
-use Rattle.cells.specs.declared.Sought.{Sought}
-use Rattle.cells.specs.declared.Sought.TheVariants as seek
+use Rattle.cells.specs.Sought.{Sought}
+use Rattle.cells.specs.Sought as seek
 use Rattle.cells.specs.Layout.{holder_cell, class_cell, if_hub}
 use Rattle.cells.specs.Decode.{plan_in}
 use Rattle.cells.specs.Frames.{advance_by}
@@ -47,9 +45,9 @@ unfoldable pub handled_looks : List ℕ → Sought → List ℕ → ℕ
 handled_looks P (seek.Class is_high) s = walked_looks P is_high s
 handled_looks P seek.Nothing s = 0
 
-unfoldable pub step_due_looks : List ℕ → Due → ℕ → List ℕ → ℕ
-step_due_looks P Never t s = 0
-step_due_looks P (At d) t s = if ltb d t then handled_looks P (sought_by (advance_by P d s)) (advance_by P d s) else 0
+unfoldable pub step_due_looks : List ℕ → Option ℕ → ℕ → List ℕ → ℕ
+step_due_looks P None t s = 0
+step_due_looks P (Some d) t s = if ltb d t then handled_looks P (sought_by (advance_by P d s)) (advance_by P d s) else 0
 
 unfoldable pub step_looks : List ℕ → ℕ → List ℕ → ℕ
 step_looks P t s = if eqb (row_by P (step t) s) 0 then step_due_looks P (due_by (plan_in P) s) t s else 0

@@ -1,11 +1,9 @@
 -- "Control, hub by hub" over the cells: a look finds the port by the hub's mask, and the walk passes control until a node is found.
-use Rattle.std.specs.Prelude.{ℕ, zero, suc, ◌+◌, ◌-◌, ◌/◌, Bool, List, ltb, eqb, get_or, set, if◌then◌else◌}
+use Rattle.std.specs.Prelude.{ℕ, zero, suc, ◌+◌, ◌-◌, ◌/◌, Bool, List, ltb, eqb, get_or, set, if◌then◌else◌, Option, Some, None}
 use Rattle.rules.specs.Plan.{Port, node, empty, hub, most_levels}
 use Rattle.rules.specs.Control.{most_looks}
 use Rattle.ports.specs.Mask.{shows, digit}
 use Rattle.ports.specs.Search.{lowest_from}
-use Rattle.ports.specs.declared.Found.{Found}
-use Rattle.ports.specs.declared.Found.TheVariants as found
 use Rattle.plan_tree.specs.Tables as plan
 use Rattle.cells.specs.declared.Look.{Look}
 use Rattle.cells.specs.declared.Look.TheVariants.{Node, Pass, Round, Stop}
@@ -50,9 +48,9 @@ module _ (P : List ℕ) (is_high : Bool) where
       if eqb g 1 then record { look = Round; cells = set s (pointer_cell is_high 1) (unmarked_code 1) }
       else up_by is_high (get_or P (plan.parent_cell g) 0) (get_or P (plan.place_cell g) 0) s
 
-  unfoldable pub found_by : ℕ → Found → List ℕ → Looked
-  found_by g (found.Port q) s = take_by is_high g q (plan.port_of (get_or P (plan.port_cell g q) 0)) s
-  found_by g found.Nothing s = hand_up_by g s
+  unfoldable pub found_by : ℕ → Option ℕ → List ℕ → Looked
+  found_by g (Some q) s = take_by is_high g q (plan.port_of (get_or P (plan.port_cell g q) 0)) s
+  found_by g None s = hand_up_by g s
 
   -- one look at hub g
   unfoldable pub look_by : ℕ → List ℕ → Looked

@@ -1,15 +1,13 @@
 -- The worst case of a call: how many mask cells it writes, by the levels of the plan; at a frame's start by its
 -- nodes and hubs. The counts stand beside the definitions of Masks, Build, Frames and Calls, case by case.
-use Rattle.std.specs.Prelude.{ℕ, zero, suc, ◌+◌, Bool, true, false, ◌||◌, List, ltb, eqb, get_or, set, if◌then◌else◌}
+use Rattle.std.specs.Prelude.{ℕ, zero, suc, ◌+◌, Bool, true, false, ◌||◌, List, ltb, eqb, get_or, set, if◌then◌else◌, Option, Some, None}
 use Rattle.rules.specs.Plan.{most_levels}
 use Rattle.rules.specs.Call.{Call, ask, off, reserve, until, step, time}
 use Rattle.ports.specs.Ports.{any_port}
 use Rattle.ports.specs.Mask.{shows}
 use Rattle.plan_tree.specs.Tables as plan
-use Rattle.cells.specs.declared.Due.{Due}
-use Rattle.cells.specs.declared.Due.TheVariants.{At, Never}
-use Rattle.cells.specs.declared.Sought.{Sought}
-use Rattle.cells.specs.declared.Sought.TheVariants as seek
+use Rattle.cells.specs.Sought.{Sought}
+use Rattle.cells.specs.Sought as seek
 use Rattle.cells.specs.Layout.{standing_cell, mask_cell, request_cell, force_cell, granted_cell, if_hub, if_node}
 use Rattle.cells.specs.Decode.{plan_in}
 use Rattle.cells.specs.Masks.{stands_in, counts_by, mask_with, alike, mend_class, standing_after, granted_more}
@@ -114,9 +112,9 @@ handled_writes P (seek.Class is_high) s = grant_writes P is_high (choose_by P is
 handled_writes P seek.Nothing s = 0
 
 -- beside `step_due` and `step_by`
-unfoldable pub step_due_writes : List ℕ → Due → ℕ → List ℕ → ℕ
-step_due_writes P Never t s = 0
-step_due_writes P (At d) t s =
+unfoldable pub step_due_writes : List ℕ → Option ℕ → ℕ → List ℕ → ℕ
+step_due_writes P None t s = 0
+step_due_writes P (Some d) t s =
     if ltb d t then handled_writes P (sought_by (advance_by P d s)) (advance_by P d s) + advance_writes P d s else 0
 
 unfoldable pub step_writes : List ℕ → ℕ → List ℕ → ℕ

@@ -1,10 +1,10 @@
 -- The walk from hub to hub, rule 2 and what a turn leaves: a law for each case of the definitions of `cells`.
-use Prim.Native.Nat.{ℕ, suc, ◌+◌, ◌-◌, ◌/◌, ◌%◌, ◌<◌, ◌≤◌}
+use Prim.Native.Nat.{ℕ, suc, ◌+◌, ◌-◌, ◌/◌, ◌%◌, ◌≤◌}
 use mathlib.Core.Path.{◌≡◌, sym, ap, ◌∙◌}
 use mathlib.Core.Bool.{Bool}
 use mathlib.Core.List.{List}
 use native.Mathlib.Omega.{arith}
-use borrow.Author.Tests.{lt-ltb, le-ltb, eq-eqb, ne_eqb}
+use borrow.Author.Tests.{le-ltb, eq-eqb, ne_eqb}
 use lib.ListN.{get_or, set}
 use Rattle.rules.specs.Plan.{most_hubs}
 use Rattle.rules.specs.Control.{most_looks}
@@ -14,6 +14,7 @@ use Rattle.cells.specs.declared.Turn.{Turn}
 use Rattle.plan_tree.specs.Tables.{level_cell, parent_cell, place_cell}
 use Rattle.cells.specs.Layout.{holder_cell, class_cell, pointer_cell, marked_code}
 use Rattle.cells.specs.Turns.{Turned, look_by, after_look, walk_by, climb_by, nearer_by, nearest_by, turning_by, walked, settled, choose_by}
+use Rattle.cells.proofs.Within.{no_hub}
 
 -- a walk that is known, taken apart as the contracts say it
 pub turned : {x : Turn} {t : List ℕ} {w : Turned} → w ≡ record { turn = x; cells = t } → (x ≡ w.turn) × (t ≡ w.cells)
@@ -28,22 +29,15 @@ module _ (P : List ℕ) (high : Bool) (looks g moves : ℕ) (s : List ℕ) where
   unfolding walk_by
   walk_over e = rw e
 
-  module _ (some : looks ≡ 0 → ⊥) where
-    -- walk_by at the number of looks that has one more
-    one_more : looks ≡ suc (looks - 1)
-    one_more = omega arith
-
-    pub walk_no_hub : g < 1 → walk_by P high looks g moves s ≡ stays 0 g moves s
+  -- one look, and the rest
+  module _ (rest : ℕ) (one_more : looks ≡ suc rest) where
+    pub walk_beyond : ¬ ((1 ≤ g) × (g ≤ most_hubs)) → walk_by P high looks g moves s ≡ stays 0 g moves s
     unfolding walk_by
-    walk_no_hub h = rw one_more (simp (lt-ltb _ _ h))
-
-    pub walk_beyond : 1 ≤ g → most_hubs < g → walk_by P high looks g moves s ≡ stays 0 g moves s
-    unfolding walk_by
-    walk_beyond l h = rw one_more (simp (le-ltb _ _ l, lt-ltb _ _ h))
+    walk_beyond other = rw one_more (sym (no_hub g _ (stays 0 g moves s) other))
 
     module _ (l : 1 ≤ g) (h : g ≤ most_hubs) where
       walk_looks_lem : walk_by P high looks g moves s
-          ≡ after_look P high (walk_by P high (looks - 1)) g moves (look_by P high g s).look (look_by P high g s).cells
+          ≡ after_look P high (walk_by P high rest) g moves (look_by P high g s).look (look_by P high g s).cells
       unfolding walk_by
       walk_looks_lem = ap (λ (n : ℕ). walk_by P high n g moves s) one_more ∙ simp (le-ltb _ _ l, le-ltb _ _ h)
 
@@ -53,12 +47,11 @@ module _ (P : List ℕ) (high : Bool) (looks g moves : ℕ) (s : List ℕ) where
         unfolding after_look
         walk_grants k e = walk_looks_lem ∙ rw (e, left)
 
-        pub walk_passes : (to : ℕ) → (look_by P high g s).look ≡ Pass to
-            → walk_by P high looks g moves s ≡ walk_by P high (looks - 1) to (moves + 1) t
+        pub walk_passes : (to : ℕ) → (look_by P high g s).look ≡ Pass to → walk_by P high looks g moves s ≡ walk_by P high rest to (moves + 1) t
         unfolding after_look
         walk_passes to e = walk_looks_lem ∙ rw (e, left)
 
-        pub walk_rounds : (look_by P high g s).look ≡ Round → walk_by P high looks g moves s ≡ walk_by P high (looks - 1) 1 moves t
+        pub walk_rounds : (look_by P high g s).look ≡ Round → walk_by P high looks g moves s ≡ walk_by P high rest 1 moves t
         unfolding after_look
         walk_rounds e = walk_looks_lem ∙ rw (e, left)
 
@@ -86,11 +79,8 @@ module _ (high : Bool) (t : Turn) (s : List ℕ) where
   class_settled e = simp (ne_eqb _ _ e)
 
 module _ (P : List ℕ) (g : ℕ) where
-  pub climb-none : g < 1 → 0 ≡ climb_by P g
-  climb-none h = simp (lt-ltb _ _ h)
-
-  pub climb_beyond : 1 ≤ g → most_hubs < g → 0 ≡ climb_by P g
-  climb_beyond l h = simp (le-ltb _ _ l, lt-ltb _ _ h)
+  pub climb_beyond : ¬ ((1 ≤ g) × (g ≤ most_hubs)) → 0 ≡ climb_by P g
+  climb_beyond other = no_hub g _ 0 other
 
   pub climb-levels : 1 ≤ g → g ≤ most_hubs → get_or P (level_cell g) 0 - 1 ≡ climb_by P g
   climb-levels l h = simp (le-ltb _ _ l, le-ltb _ _ h)
@@ -126,13 +116,9 @@ module _ (P : List ℕ) (high : Bool) (levels g q t : ℕ) (s : List ℕ) where
     one_level : levels ≡ suc (levels - 1)
     one_level = omega arith
 
-    pub line_no_hub : g < 1 → 1 ≡ nearest_by P high levels g q t s
+    pub line_beyond : ¬ ((1 ≤ g) × (g ≤ most_hubs)) → 1 ≡ nearest_by P high levels g q t s
     unfolding nearest_by
-    line_no_hub h = rw one_level (simp (lt-ltb _ _ h))
-
-    pub line_beyond : 1 ≤ g → most_hubs < g → 1 ≡ nearest_by P high levels g q t s
-    unfolding nearest_by
-    line_beyond l h = rw one_level (simp (le-ltb _ _ l, lt-ltb _ _ h))
+    line_beyond other = rw one_level (no_hub g _ 1 other)
 
     module _ (l : 1 ≤ g) (h : g ≤ most_hubs) (u at : ℕ) (e : at ≡ pointer_cell high g) (near : u ≡ nearer_by (get_or s at 0) g q t) where
       pub line_ends : g ≡ 1 → u ≡ nearest_by P high levels g q t s

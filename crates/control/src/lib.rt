@@ -3,84 +3,62 @@
 // table that it leaves, for every content, by a definition of `cells`.
 #![tactic(auto)]
 
-ghost use Rattle.std.specs.Prelude.{◌≡◌, false, ◌-◌, ◌≤◌, ◌<◌, get_or, set};
-ghost use Rattle.rules.specs.Plan.{most_hubs, most_ports};
+ghost use Rattle.std.specs.Prelude.{◌≡◌, ◌≤◌, ◌<◌, get_or, set};
+ghost use Rattle.rules.specs.Plan.{most_ports};
 ghost use Rattle.rules.specs.Control.{most_looks};
 ghost use Rattle.plan_tree.specs.Tables.{port_of, port_cell};
-ghost use Rattle.cells.specs.Layout.{mask_cell, pointer_cell, node_cell};
+ghost use Rattle.cells.specs.Layout.{pointer_cell};
 ghost use Rattle.cells.specs.Turns.{down_by, take_by, up_by, hand_up_by, look_by, walk_by, climb_by, nearer_by, nearest_by, walked, settled, choose_by};
 
-use cells::{Cascade, Look, Turn};
+use cells::{Cascade, Hub, Look, Turn};
 use plan_tree::Plan;
-use ports::Found;
 
-// Where hub g's mask of a class stands. The masks are the first of its cells.
-fn mask_cell(high: bool, g: u32) -> usize
-    requires { (1 ≤ g) × (g ≤ most_hubs) }
-    ensures value { result ≡ mask_cell high g }
-    ensures upper_bound { result < pointer_cell false most_hubs }
-{
-    cells::HUBS + (g as usize - 1) * cells::PER_HUB + high as usize
-}
+// A turn ends within so many looks.
+const MOST_LOOKS: u32 = 15;
 
-// Where its pointer of the class stands: as far behind the mask as the pointers begin behind the hub's first cell.
-fn pointer_cell(high: bool, g: u32) -> usize
-    requires { (1 ≤ g) × (g ≤ most_hubs) }
-    ensures value { result ≡ pointer_cell high g }
-    ensures upper_bound { result < node_cell 1 0 }
+// A hub's pointer of a class becomes x.
+fn point(s: &mut Cascade, high: bool, hub: Hub, x: u32)
+    ensures { s.new ≡ set s.old (pointer_cell high hub.number) x }
 {
-    mask_cell(high, g) + cells::POINTER
-}
-
-// Hub g's pointer of a class becomes x.
-fn point(s: &mut Cascade, high: bool, g: u32, x: u32)
-    requires { (1 ≤ g) × (g ≤ most_hubs) }
-    ensures { s.new ≡ set s.old (pointer_cell high g) x }
-{
-    let at = pointer_cell(high, g);
+    let at = hub.pointer(high);
     s[at] = x;
 }
 
-// Rule 3, a hub h found at port q of hub g: the pointer is that port, marked; h resumes if it was so before, and else starts afresh.
-fn go_down(s: &mut Cascade, high: bool, g: u32, q: u32, h: u32)
-    requires le_g { (1 ≤ g) × (g ≤ most_hubs) }
-    requires le_q { (1 ≤ q) × (q ≤ most_ports) }
-    requires le_h { (1 ≤ h) × (h ≤ most_hubs) }
-    ensures { s.new ≡ down_by high g q h s.old }
+// Rule 3, a hub found below at port q: the pointer is that port, marked; the hub below resumes if it was so before, and else starts afresh.
+fn go_down(s: &mut Cascade, high: bool, hub: Hub, q: u32, below: Hub)
+    requires { (1 ≤ q) × (q ≤ most_ports) }
+    ensures { s.new ≡ down_by high hub.number q below.number s.old }
 {
-    let at = pointer_cell(high, g);
+    let at = hub.pointer(high);
     let before = s[at];
     let marked = q * cells::PER_PORT + cells::MARK;
     s[at] = marked;
     if before == marked {
         return;
     }
-    point(s, high, h, cells::PORT_1);
+    point(s, high, below, cells::PORT_1);
 }
 
-// Rule 3 at port q of hub g.
-fn take(p: &Plan, s: &mut Cascade, high: bool, g: u32, q: u32) -> Look
-    requires le_g { (1 ≤ g) × (g ≤ most_hubs) }
-    requires le_q { (1 ≤ q) × (q ≤ most_ports) }
-    ensures value { result ≡ (take_by high g q (port_of (get_or p.now (port_cell g q) 0)) s.old).look }
-    ensures s_after { s.new ≡ (take_by high g q (port_of (get_or p.now (port_cell g q) 0)) s.old).cells }
+// Rule 3 at port q of a hub.
+fn take(p: &Plan, s: &mut Cascade, high: bool, hub: Hub, q: u32) -> Look
+    requires { (1 ≤ q) × (q ≤ most_ports) }
+    ensures value { result ≡ (take_by high hub.number q (port_of (get_or p.now (port_cell hub.number q) 0)) s.old).look }
+    ensures s_after { s.new ≡ (take_by high hub.number q (port_of (get_or p.now (port_cell hub.number q) 0)) s.old).cells }
 {
-    let x = p[plan_tree::HUBS
-        + (g as usize - 1) * plan_tree::PER_HUB
-        + (plan_tree::PORT + q as usize)];
+    let own = plan_tree::HUBS + (hub.number as usize - 1) * plan_tree::PER_HUB;
+    let x = p[own + (plan_tree::PORT + q as usize)];
     if x == plan_tree::EMPTY {
         return Look::Stop;
     }
     if x <= plan_tree::HUB_CODE {
-        point(s, high, g, (q + 1) * cells::PER_PORT);
+        point(s, high, hub, (q + 1) * cells::PER_PORT);
         return Look::Node(x);
     }
-    let h = x - plan_tree::HUB_CODE;
-    if cells::MOST_HUBS < h {
+    let Some(below) = Hub::new(x - plan_tree::HUB_CODE) else {
         return Look::Stop;
-    }
-    go_down(s, high, g, q, h);
-    Look::Pass(h)
+    };
+    go_down(s, high, hub, q, below);
+    Look::Pass(below.number)
 }
 
 // Rule 4 at a lower hub that stands at port q of hub h.
@@ -88,30 +66,26 @@ fn go_up(s: &mut Cascade, high: bool, h: u32, q: u32) -> Look
     ensures value { result ≡ (up_by high h q s.old).look }
     ensures s_after { s.new ≡ (up_by high h q s.old).cells }
 {
-    if h < 1 {
+    let Some(above) = Hub::new(h) else {
         return Look::Stop;
-    }
-    if cells::MOST_HUBS < h {
-        return Look::Stop;
-    }
+    };
     if cells::MOST_PORTS < q {
         return Look::Stop;
     }
-    point(s, high, h, (q + 1) * cells::PER_PORT);
+    point(s, high, above, (q + 1) * cells::PER_PORT);
     Look::Pass(h)
 }
 
-// Rule 4 at hub g: the root goes to port 1, another hands control up.
-fn hand_up(p: &Plan, s: &mut Cascade, high: bool, g: u32) -> Look
-    requires { (1 ≤ g) × (g ≤ most_hubs) }
-    ensures value { result ≡ (hand_up_by p.now high g s.old).look }
-    ensures s_after { s.new ≡ (hand_up_by p.now high g s.old).cells }
+// Rule 4 at a hub: the root goes to port 1, another hands control up.
+fn hand_up(p: &Plan, s: &mut Cascade, high: bool, hub: Hub) -> Look
+    ensures value { result ≡ (hand_up_by p.now high hub.number s.old).look }
+    ensures s_after { s.new ≡ (hand_up_by p.now high hub.number s.old).cells }
 {
-    if g == 1 {
-        point(s, high, 1, cells::PORT_1);
+    if hub.number == 1 {
+        point(s, high, hub, cells::PORT_1);
         return Look::Round;
     }
-    let own = plan_tree::HUBS + (g as usize - 1) * plan_tree::PER_HUB;
+    let own = plan_tree::HUBS + (hub.number as usize - 1) * plan_tree::PER_HUB;
     go_up(
         s,
         high,
@@ -120,16 +94,16 @@ fn hand_up(p: &Plan, s: &mut Cascade, high: bool, g: u32) -> Look
     )
 }
 
-// One look at hub g.
-fn look(p: &Plan, s: &mut Cascade, high: bool, g: u32) -> Look
-    requires { (1 ≤ g) × (g ≤ most_hubs) }
-    ensures value { result ≡ (look_by p.now high g s.old).look }
-    ensures s_after { s.new ≡ (look_by p.now high g s.old).cells }
+// One look at a hub.
+fn look(p: &Plan, s: &mut Cascade, high: bool, hub: Hub) -> Look
+    ensures value { result ≡ (look_by p.now high hub.number s.old).look }
+    ensures s_after { s.new ≡ (look_by p.now high hub.number s.old).cells }
 {
-    let at = mask_cell(high, g);
-    match ports::lowest(s[at], s[at + cells::POINTER] / cells::PER_PORT) {
-        Found::Port(q) => take(p, s, high, g, q),
-        Found::Nothing => hand_up(p, s, high, g),
+    let mask = s[hub.mask(high)];
+    let pointer = s[hub.pointer(high)];
+    match ports::lowest(mask, pointer / cells::PER_PORT) {
+        Some(q) => take(p, s, high, hub, q),
+        None => hand_up(p, s, high, hub),
     }
 }
 
@@ -153,13 +127,11 @@ fn walk(p: &Plan, s: &mut Cascade, high: bool, from: u32, before: u64) -> Turn
 {
     let mut g = from;
     let mut moves = before;
-    let mut looks: u32 = 15;
-    while looks != 0 {
-        if g < 1 || cells::MOST_HUBS < g {
+    for _ in 0..MOST_LOOKS {
+        let Some(hub) = Hub::new(g) else {
             return nobody(g, moves);
-        }
-        looks -= 1;
-        match look(p, s, high, g) {
+        };
+        match look(p, s, high, hub) {
             Look::Node(k) => {
                 return Turn {
                     node: k,
@@ -182,42 +154,16 @@ fn walk(p: &Plan, s: &mut Cascade, high: bool, from: u32, before: u64) -> Turn
     nobody(g, moves)
 }
 
-// Moves from a hub of a level up to the root: one for each level.
-fn moves_up(level: u32) -> u64
-    ensures value { result ≡ level - 1 }
-    ensures upper_bound { result < 4294967296 }
-{
-    if level < 1 {
-        return 0;
-    }
-    level as u64 - 1
-}
-
-// Moves from hub g up to the root.
+// Moves from hub g up to the root: one for each level.
 pub fn climb(p: &Plan, g: u32) -> u64
     ensures value { result ≡ climb_by p.now g }
     ensures upper_bound { result < 4294967296 }
 {
-    if g < 1 {
+    let Some(hub) = Hub::new(g) else {
         return 0;
-    }
-    if cells::MOST_HUBS < g {
-        return 0;
-    }
-    moves_up(p[plan_tree::HUBS + (g as usize - 1) * plan_tree::PER_HUB + plan_tree::LEVEL])
-}
-
-// Moves from hub g up to hub t of its line.
-fn climb_to(p: &Plan, g: u32, t: u32) -> u64
-    ensures value { result ≡ climb_by p.now g - climb_by p.now t }
-    ensures upper_bound { result < 4294967296 }
-{
-    let whole = climb(p, g);
-    let rest = climb(p, t);
-    if whole < rest {
-        return 0;
-    }
-    whole - rest
+    };
+    let own = plan_tree::HUBS + (hub.number as usize - 1) * plan_tree::PER_HUB;
+    p[own + plan_tree::LEVEL].saturating_sub(1) as u64
 }
 
 // Rule 2, one hub g of the holder's line, which goes on at port q: t stays the nearest hub if g's pointer is marked and there.
@@ -226,10 +172,7 @@ fn nearer(pointer: u32, g: u32, q: u32, t: u32) -> u32
 {
     let mark = pointer % cells::PER_PORT;
     let port = pointer / cells::PER_PORT;
-    if mark == 0 {
-        return g;
-    }
-    if port == q {
+    if mark != 0 && port == q {
         return t;
     }
     g
@@ -242,17 +185,14 @@ fn nearest(p: &Plan, s: &Cascade, high: bool, g: u32, q: u32, t: u32, levels: u3
     if levels == 0 {
         return 1;
     }
-    if g < 1 {
+    let Some(hub) = Hub::new(g) else {
         return 1;
-    }
-    if cells::MOST_HUBS < g {
-        return 1;
-    }
-    let u = nearer(s[pointer_cell(high, g)], g, q, t);
+    };
+    let u = nearer(s[hub.pointer(high)], g, q, t);
     if g == 1 {
         return u;
     }
-    let own = plan_tree::HUBS + (g as usize - 1) * plan_tree::PER_HUB;
+    let own = plan_tree::HUBS + (hub.number as usize - 1) * plan_tree::PER_HUB;
     nearest(
         p,
         s,
@@ -273,9 +213,9 @@ fn start(p: &Plan, s: &Cascade, high: bool) -> Turn
     if s[cells::CLASS] == high as u32 {
         return nobody(holder, 0);
     }
-    let hub = nearest(p, s, high, holder, 0, holder, 5);
-    let moves = climb_to(p, holder, hub);
-    nobody(hub, moves)
+    let near = nearest(p, s, high, holder, 0, holder, 5);
+    let moves = climb(p, holder).saturating_sub(climb(p, near));
+    nobody(near, moves)
 }
 
 // Who has control after a turn, and of what class the latest grant was.

@@ -27,7 +27,7 @@ use Rattle.plan.specs.Reading.{reading}
 use Rattle.plan_theory.specs.Taken.{TakenAs}
 use Rattle.demands.specs.Promises.{Promises}
 use Rattle.demands.proofs.Promises.{drawn_promises}
-use Rattle.cells.specs.declared.Step.TheVariants.{Grant}
+use Rattle.cells.specs.Step.{Grant}
 use Rattle.cells.specs.Layout.{time_at, clock_cell}
 use Rattle.cells.specs.Decode.{plan_in, core_of, hub_of}
 use Rattle.cells.specs.Waits.{times_of}

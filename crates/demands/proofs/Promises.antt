@@ -23,7 +23,7 @@ use Rattle.rules.proofs.Core.Stable.{clock_grows}
 use Rattle.rules.proofs.Promised.Unchanged.{refusal_changes_nothing, quiet_changes_nothing}
 use Rattle.rules.proofs.Promised.Admission.{admission_holds}
 use Rattle.rules.proofs.Core.Acceptance.{acceptable_taken, taken_acceptable}
-use Rattle.plan.specs.declared.Answer.TheVariants.{Taken}
+use Rattle.plan.specs.Answer.{Taken}
 use Rattle.plan.specs.Reading.{reading}
 use Rattle.plan.specs.Tables.{plan_of}
 use Rattle.plan_theory.proofs.TakenPlan.{taken_plan}

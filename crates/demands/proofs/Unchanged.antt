@@ -1,14 +1,13 @@
 -- A refusal changes no cell, and neither does quiet: of every content of both tables.
+use Rattle.std.specs.Prelude.{Option, Some, None}
 use Prim.Native.Nat.{ℕ}
 use mathlib.Core.Path.{◌≡◌, refl, subst}
 use mathlib.Core.List.{List}
 use lib.Dec.{eqb, ltb}
 use Rattle.rules.specs.Call.{Call, ask, off, reserve, until, step, Answer, taken, refused, grant, rest, quiet}
 use Rattle.rules.proofs.Laws.Passes.{Which, which, yes', no'}
-use Rattle.cells.specs.declared.Due.{Due}
-use Rattle.cells.specs.declared.Due.TheVariants.{At, Never}
-use Rattle.cells.specs.declared.Sought.{Sought}
-use Rattle.cells.specs.declared.Sought.TheVariants as seek
+use Rattle.cells.specs.Sought.{Sought}
+use Rattle.cells.specs.Sought as seek
 use Rattle.cells.specs.Decode.{plan_in}
 use Rattle.cells.specs.Frames.{advance_by}
 use Rattle.cells.specs.Instants.{due_by, sought_by}
@@ -41,12 +40,12 @@ module _ (P : List ℕ) (s : List ℕ) where
   handled_done d (seek.Class is_high) r = tt
   handled_done d seek.Nothing r = tt
 
-  due_either : (x : Due) (t : ℕ) → Either (step_answer (step_due P x t s).answer) s (step_due P x t s).cells
+  due_either : (x : Option ℕ) (t : ℕ) → Either (step_answer (step_due P x t s).answer) s (step_due P x t s).cells
   unfolding step_due
-  due_either Never t = same refl
-  due_either (At d) t = go (which (ltb d t))
+  due_either None t = same refl
+  due_either (Some d) t = go (which (ltb d t))
     where
-      go : Which (ltb d t) → Either (step_answer (step_due P (At d) t s).answer) s (step_due P (At d) t s).cells
+      go : Which (ltb d t) → Either (step_answer (step_due P (Some d) t s).answer) s (step_due P (Some d) t s).cells
       go (yes' l) = done (rw l (handled_done d (sought_by (advance_by P d s)) (advance_by P d s)))
       go (no' l) = same (rw l)
 

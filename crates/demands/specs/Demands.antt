@@ -42,8 +42,7 @@ use Rattle.plan.specs.AsBefore.{has_framing, has_strict, reading_before, reading
 use Rattle.plan_theory.specs.Tree.{stands, with_strict_line, draw}
 use Rattle.plan_theory.specs.Taken.{DrawnBy, TakenAs, RefusedAt, TakenFor}
 use Rattle.plan_theory.specs.First.{RowApplies, DecidedBy}
-use Rattle.cells.specs.declared.Step.{Step}
-use Rattle.cells.specs.declared.Step.TheVariants.{Grant}
+use Rattle.cells.specs.Step.{Step, Grant}
 use Rattle.cells.specs.Layout.{time_at, clock_cell}
 use Rattle.cells.specs.Decode.{hub_of, core_of}
 use Rattle.cells.specs.Fresh.{fresh_cells}

@@ -7,7 +7,7 @@ ghost use Rattle.rules.specs.Call.{time};
 ghost use Rattle.event.specs.Call.{call_of};
 
 // The five events of document 01: t is the time, k the node, n a number of packets and b the bits of one.
-#[derive(Clone, Copy)]
+#[derive(Clone, Copy, Debug, PartialEq, Eq)]
 pub enum Event {
     Normal { t: u64, k: u64, b: u64 },
     High { t: u64, k: u64, b: u64 },
@@ -21,15 +21,10 @@ pub fn time_of(e: Event) -> u64
     ensures { result ≡ time (call_of e) }
 {
     match e {
-        Event::Normal { t, k: _, b: _ } => t,
-        Event::High { t, k: _, b: _ } => t,
-        Event::Off { t, k: _ } => t,
-        Event::Reserve {
-            t,
-            k: _,
-            n: _,
-            b: _,
-        } => t,
-        Event::Until { t } => t,
+        Event::Normal { t, .. }
+        | Event::High { t, .. }
+        | Event::Off { t, .. }
+        | Event::Reserve { t, .. }
+        | Event::Until { t } => t,
     }
 }

@@ -3,52 +3,33 @@
 #![tactic(auto)]
 
 ghost use Rattle.std.specs.Prelude.{◌≡◌};
-ghost use Rattle.text.specs.Part.{part};
 ghost use Rattle.event_lines.specs.Event.{event_of};
 
 use event::Event;
-use text::Form;
 
-// What a line says: an event, or none.
-#[derive(Drop)]
-pub enum Said {
-    Event(Event),
-    NoEvent,
-}
-
-// What the line from start to end says. No line begins with two of the words, so the numbers behind the first that is there decide.
-pub fn event_at(text: &[u8], start: usize, end: usize) -> Said
-    ensures { result ≡ event_of (part text.now start end) }
+// What a line says, if it is an event. No line begins with two of the words, so the numbers behind the first that is there decide.
+pub fn event_at(line: &[u8]) -> Option<Event>
+    ensures { result ≡ event_of line.now }
 {
-    if text::word_at(text, start, end, b"(normal") {
-        let Form::Numbers(t, k, b, _) = text::numbers_from(text, start + 7, end, 3) else {
-            return Said::NoEvent;
-        };
-        return Said::Event(Event::Normal { t, k, b });
+    if let Some(rest) = line.strip_prefix(b"(normal") {
+        let [t, k, b, _] = text::numbers_from(rest, 3)?;
+        return Some(Event::Normal { t, k, b });
     }
-    if text::word_at(text, start, end, b"(high") {
-        let Form::Numbers(t, k, b, _) = text::numbers_from(text, start + 5, end, 3) else {
-            return Said::NoEvent;
-        };
-        return Said::Event(Event::High { t, k, b });
+    if let Some(rest) = line.strip_prefix(b"(high") {
+        let [t, k, b, _] = text::numbers_from(rest, 3)?;
+        return Some(Event::High { t, k, b });
     }
-    if text::word_at(text, start, end, b"(off") {
-        let Form::Numbers(t, k, _, _) = text::numbers_from(text, start + 4, end, 2) else {
-            return Said::NoEvent;
-        };
-        return Said::Event(Event::Off { t, k });
+    if let Some(rest) = line.strip_prefix(b"(off") {
+        let [t, k, _, _] = text::numbers_from(rest, 2)?;
+        return Some(Event::Off { t, k });
     }
-    if text::word_at(text, start, end, b"(reserve") {
-        let Form::Numbers(t, k, n, b) = text::numbers_from(text, start + 8, end, 4) else {
-            return Said::NoEvent;
-        };
-        return Said::Event(Event::Reserve { t, k, n, b });
+    if let Some(rest) = line.strip_prefix(b"(reserve") {
+        let [t, k, n, b] = text::numbers_from(rest, 4)?;
+        return Some(Event::Reserve { t, k, n, b });
     }
-    if text::word_at(text, start, end, b"(until") {
-        let Form::Numbers(t, _, _, _) = text::numbers_from(text, start + 6, end, 1) else {
-            return Said::NoEvent;
-        };
-        return Said::Event(Event::Until { t });
+    if let Some(rest) = line.strip_prefix(b"(until") {
+        let [t, _, _, _] = text::numbers_from(rest, 1)?;
+        return Some(Event::Until { t });
     }
-    Said::NoEvent
+    None
 }

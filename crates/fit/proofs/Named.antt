@@ -20,8 +20,7 @@ use Rattle.admission.specs.Share.{limit_rows, row17_with, share_row_with}
 use Rattle.admission.proofs.ReserveRows.{Reserved, limits_kept}
 use Rattle.admission.proofs.Shares.{latest_cell_lem, loads-put}
 use Rattle.offers.specs.Offers.{Offer, answer_to}
-use Rattle.fit.specs.declared.Fit.{Fit}
-use Rattle.fit.specs.declared.Fit.TheVariants.{Answer, Packets, Bits, Release, Nothing}
+use Rattle.fit.specs.Change.{Fit, Answer, Packets, Bits, Release, Nothing}
 use Rattle.fit.specs.Fit.{lower_packets, lower_bits, first_change, release_for, frame_room, fit_within, fit_for}
 
 module _ (p : Plan) (s : Core) (room k n b : ℕ) where

@@ -6,8 +6,7 @@ use Rattle.rules.specs.Core.{Core, nothing_reserved}
 use Rattle.rules.specs.Rows.{load, loads}
 use Rattle.cells.specs.Decode.{plan_in, core_of}
 use Rattle.offers.specs.Offers.{Offer, answer_to}
-use Rattle.fit.specs.declared.Fit.{Fit}
-use Rattle.fit.specs.declared.Fit.TheVariants.{Answer, Packets, Bits, Release, Nothing}
+use Rattle.fit.specs.Change.{Fit, Answer, Packets, Bits, Release, Nothing}
 
 -- What the frame has left for node k beside D and the other nodes' latest accepted reservations: its own is replaced. Where these are more
 -- than T, which no run leaves, it is taken as 0.

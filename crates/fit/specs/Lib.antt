@@ -1,2 +1,3 @@
 -- Request 10 of document 02: what would make it fit.
+pub mod Change
 pub mod Fit

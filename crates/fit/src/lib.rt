@@ -2,19 +2,20 @@
 // Both tables are lent for reading only. No function has a `requires`: each says its answer for every content of them.
 #![tactic(auto)]
 
-ghost use Rattle.std.specs.Prelude.{◌≡◌, not, ◌&&◌, ◌||◌, ◌+◌, ◌-◌, ◌*◌, ◌/◌, ◌%◌, eqb, ltb, leb};
+ghost use Rattle.std.specs.Prelude.{◌≡◌, not, ◌&&◌, ◌||◌, ◌+◌, ◌-◌, ◌*◌, ◌/◌, ◌%◌, eqb, ltb, leb, Ok};
 ghost use Rattle.cells.specs.Layout.{half};
 ghost use Rattle.cells.specs.Decode.{plan_in, core_of};
+ghost use Rattle.fit.specs.Change.{told_fit};
 ghost use Rattle.fit.specs.Fit.{largest_below, release_for, fit_within, fit_for};
 
-use cells::Cascade;
+use cells::{Cascade, Refusal};
 use plan_tree::Plan;
 
 // What an offer of n packets of b bits for a node hears.
-#[derive(Drop)]
+#[derive(Clone, Copy, Debug, PartialEq, Eq)]
 pub enum Fit {
-    // Request 9's answer, where that isn't 17.
-    Answer(u32),
+    // It is granted as it is.
+    Granted,
     // So many packets would fit.
     Packets(u64),
     // Packets of so many bits would fit.
@@ -92,16 +93,13 @@ fn better(
 fn release(p: &Plan, s: &Cascade, room: u64, k: u64, needed: u64) -> u32
     ensures { result ≡ release_for (plan_in p.now) (core_of (plan_in p.now) s.now) room k needed }
 {
-    let nodes = masks::nodes(p);
     let mut best = 0;
     let mut least = 0;
-    let mut j = 0;
-    while j < nodes {
+    for j in 0..masks::nodes(p) {
         let share = s[cells::LATEST + j as usize];
         let load = frames::load(p[plan::OVERHEAD], share);
-        j += 1;
-        if better(j, k, share, load, room, needed, best, least) {
-            best = j;
+        if better(j + 1, k, share, load, room, needed, best, least) {
+            best = j + 1;
             least = load;
         }
     }
@@ -110,7 +108,7 @@ fn release(p: &Plan, s: &Cascade, room: u64, k: u64, needed: u64) -> u32
 
 // The smallest change of an offer with which it has room. The room is a parameter, since in a hall the trunk may leave less than the frame.
 pub fn within(p: &Plan, s: &Cascade, room: u64, k: u64, n: u16, b: u16) -> Fit
-    ensures { result ≡ fit_within (plan_in p.now) (core_of (plan_in p.now) s.now) room k n b }
+    ensures { told_fit (Ok result) ≡ fit_within (plan_in p.now) (core_of (plan_in p.now) s.now) room k n b }
 {
     let packets = lower_packets(p[plan::OVERHEAD], room, n, b);
     if packets != 0 {
@@ -143,18 +141,17 @@ pub fn frame_room(frame: u32, overhead: u32, interrupt: u32, all: u64, old: u32)
     most - (interrupt as u64 + all)
 }
 
-// What would make an offer fit at a time t: request 9's answer, or, where that is 17, the smallest change.
-pub fn at_time(p: &Plan, s: &Cascade, t: u64, k: u64, n: u64, b: u64) -> Fit
-    ensures { result ≡ fit_for p.now t s.now (record { node = k; packets = n; bits = b }) }
+// What would make an offer fit at a time t: the row that refuses it, request 9's answer, or, where that is 17, the smallest change.
+pub fn at_time(p: &Plan, s: &Cascade, t: u64, k: u64, n: u64, b: u64) -> Result<Fit, Refusal>
+    ensures { told_fit result ≡ fit_for p.now t s.now (record { node = k; packets = n; bits = b }) }
 {
-    let late = rows::time_row(p, s, t);
-    if late != 0 {
-        return Fit::Answer(late);
-    }
+    rows::time_row(p, s, t)?;
     let all = frames::loads(p, s);
-    let row = admission::share_row_with(p, s, all, k, n, b);
-    if row != 17 {
-        return Fit::Answer(row);
+    let Err(row) = admission::share_row_with(p, s, all, k, n, b) else {
+        return Ok(Fit::Granted);
+    };
+    if row != Refusal::Overfull {
+        return Err(row);
     }
     let at = cells::LATEST + (k as usize - 1);
     let room = frame_room(
@@ -164,5 +161,5 @@ pub fn at_time(p: &Plan, s: &Cascade, t: u64, k: u64, n: u64, b: u64) -> Fit
         all,
         s[at],
     );
-    within(p, s, room, k, n as u16, b as u16)
+    Ok(within(p, s, room, k, n as u16, b as u16))
 }

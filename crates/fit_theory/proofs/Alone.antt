@@ -10,8 +10,7 @@ use Rattle.rules.specs.Plan.{Plan}
 use Rattle.rules.specs.Core.{Core}
 use Rattle.rules.proofs.Laws.Passes.{Which, which, yes', no'}
 use Rattle.offers.specs.Offers.{Offer}
-use Rattle.fit.specs.declared.Fit.{Fit}
-use Rattle.fit.specs.declared.Fit.TheVariants.{Answer, Packets, Bits, Release, Nothing}
+use Rattle.fit.specs.Change.{Fit, Answer, Packets, Bits, Release, Nothing}
 use Rattle.fit.specs.Fit.{cost}
 use Rattle.fit_theory.specs.Changes.{Change, packets, bits, release, Possible, Before, First, Means}
 

@@ -11,7 +11,7 @@ use Rattle.beside.proofs.SameHub.{same_hub, extended_demands}
 use Rattle.beside.proofs.Question.{question_lawful, no_trace, goes_on}
 use Rattle.offers.specs.Offers.{Offer, clock_of}
 use Rattle.offers_theory.proofs.AtClock.{at_clock}
-use Rattle.fit.specs.declared.Fit.{Fit}
+use Rattle.fit.specs.Change.{Fit}
 use Rattle.fit_theory.specs.Fitting.{heard_of, fitting, InLists}
 use Rattle.fit_theory.proofs.Smallest.{smallest}
 

@@ -19,8 +19,7 @@ use Rattle.cells.specs.Decode.{plan_in, core_of}
 use Rattle.cells.specs.Calls.{row_by}
 use Rattle.demands.specs.Demands.{Calls}
 use Rattle.offers.specs.Offers.{Offer, answer_to}
-use Rattle.fit.specs.declared.Fit.{Fit}
-use Rattle.fit.specs.declared.Fit.TheVariants.{Answer, Packets, Bits, Release, Nothing}
+use Rattle.fit.specs.Change.{Fit, Answer, Packets, Bits, Release, Nothing}
 use Rattle.fit.specs.Fit.{frame_room, fit_within, fit_for}
 use Rattle.fit_theory.specs.Changes.{Change, release, Possible, First, Means}
 use Rattle.fit_theory.specs.Smallest.{answer_with, MeansHere, Smallest}

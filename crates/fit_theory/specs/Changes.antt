@@ -5,8 +5,7 @@ use Rattle.rules.specs.Drawn.{Within}
 use Rattle.rules.specs.Core.{Core}
 use Rattle.rules.specs.Rows.{load}
 use Rattle.offers.specs.Offers.{Offer}
-use Rattle.fit.specs.declared.Fit.{Fit}
-use Rattle.fit.specs.declared.Fit.TheVariants.{Answer, Packets, Bits, Release, Nothing}
+use Rattle.fit.specs.Change.{Fit, Answer, Packets, Bits, Release, Nothing}
 
 pub data Change : Type 0 where
   -- so many packets, for the same node and b

@@ -9,7 +9,7 @@ use Rattle.beside.specs.SameHub.{six_calls, ExtendedDemands}
 use Rattle.beside.specs.Question.{question}
 use Rattle.offers.specs.Offers.{Offer, clock_of}
 use Rattle.offers_theory.specs.Single.{AtClock}
-use Rattle.fit.specs.declared.Fit.{Fit}
+use Rattle.fit.specs.Change.{Fit}
 use Rattle.fit.specs.Fit.{fit_for}
 use Rattle.fit_theory.specs.Smallest.{Smallest}
 

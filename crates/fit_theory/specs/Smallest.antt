@@ -5,7 +5,7 @@ use Rattle.rules.specs.Call.{reserve}
 use Rattle.cells.specs.Decode.{plan_in, core_of}
 use Rattle.cells.specs.Calls.{row_by, event_by}
 use Rattle.offers.specs.Offers.{Offer, answer_to}
-use Rattle.fit.specs.declared.Fit.{Fit}
+use Rattle.fit.specs.Change.{Fit}
 use Rattle.fit.specs.Fit.{fit_for}
 use Rattle.fit_theory.specs.Changes.{Change, packets, bits, release, Possible, Means}
 

@@ -8,8 +8,7 @@ use Rattle.trials.specs.Plans.{plan01, framed}
 use Rattle.beside.specs.Beside.{told, entry, Item, of_hub, aside}
 use Rattle.beside.specs.Extended.{Extended}
 use Rattle.beside.specs.Run.{ran}
-use Rattle.fit.specs.declared.Fit.{Fit}
-use Rattle.fit.specs.declared.Fit.TheVariants.{Answer, Packets, Bits, Release, Nothing}
+use Rattle.fit.specs.Change.{Fit, Answer, Packets, Bits, Release, Nothing}
 use Rattle.fit_theory.specs.Fitting.{fitting, InLists}
 
 abbrev pub P01 : List ℕ

@@ -4,7 +4,9 @@ use mathlib.Core.Path.{◌≡◌, refl, ap, ◌∙◌}
 use mathlib.Core.Bool.{true, false}
 use mathlib.Core.List.{List}
 use native.Mathlib.Numerals.{unary_clauses}
-use Rattle.cells.specs.Layout.{clock_cell, put_time}
+use lib.ListN.{get_or, set}
+use Rattle.rules.specs.Core.{reclassed}
+use Rattle.cells.specs.Layout.{clock_cell, put_time, request_cell, force_cell, latest_cell, granted_cell, request_of, request_code, share_of}
 use Rattle.cells.specs.Decode.{plan_in}
 use Rattle.cells.specs.Build.{build_masks}
 use Rattle.cells.specs.Waits.{turn_all, start_by}
@@ -14,14 +16,23 @@ pub starts_none : (s : List ℕ) (n : ℕ) → n ≡ 0 → s ≡ start_nodes n s
 unfolding start_nodes
 starts_none s n e = rw e
 
-pub starts_some : (s : List ℕ) (n : ℕ) → (n ≡ 0 → ⊥) → start_nodes (n - 1) (start_cells n s) ≡ start_nodes n s
+starts_more : (s : List ℕ) (n : ℕ) → (n ≡ 0 → ⊥) → start_nodes (n - 1) (start_cells n s) ≡ start_nodes n s
 unfolding start_nodes
-starts_some s zero h = absurd (h refl)
-starts_some s (suc n) h = simp unary_clauses
+starts_more s zero h = absurd (h refl)
+starts_more s (suc n) h = simp unary_clauses
 
-pub starts_all : (P s : List ℕ) (n : ℕ) (r z : List ℕ) → n ≡ (plan_in P).nodes → r ≡ start_nodes n s → z ≡ build_masks P r → z ≡ start_frame P s
+-- x is what becomes of node n's request
+pub starts_some : (s : List ℕ) (n x : ℕ) → (n ≡ 0 → ⊥)
+    → x ≡ request_code (reclassed (share_of (get_or s (latest_cell n) 0)) (request_of (get_or s (request_cell n) 0)))
+    → start_nodes (n - 1) (set (set (set s (request_cell n) x) (force_cell n) (get_or s (latest_cell n) 0)) (granted_cell n) 0) ≡ start_nodes n s
+unfolding start_cells
+starts_some s n x h e =
+    ap (λ (y : ℕ). start_nodes (n - 1) (set (set (set s (request_cell n) y) (force_cell n) (get_or s (latest_cell n) 0)) (granted_cell n) 0)) e
+    ∙ starts_more s n h
+
+pub starts_all : (P s r z : List ℕ) → r ≡ start_nodes (plan_in P).nodes s → z ≡ build_masks P r → z ≡ start_frame P s
 unfolding start_frame
-starts_all P s n r z a e i = i ∙ ap (build_masks P) (e ∙ ap (λ (x : ℕ). start_nodes x s) a)
+starts_all P s r z e i = i ∙ ap (build_masks P) e
 
 -- behind the recorded times of the requests that it makes normal
 pub starts_turned : (P s : List ℕ) (start : ℕ) (r z : List ℕ) → start ≡ start_by P s → r ≡ turn_all P start s → z ≡ start_frame P r

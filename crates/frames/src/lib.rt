@@ -3,15 +3,13 @@
 // table that it leaves, for every content, by a definition of `cells`.
 #![tactic(auto)]
 
-ghost use Rattle.std.specs.Prelude.{◌≡◌, true, ◌+◌, ◌*◌, ◌/◌, ◌%◌, ◌≤◌, ◌<◌, ltb, get_or};
-ghost use Rattle.rules.specs.Choice.{sum};
-ghost use Rattle.rules.specs.Plan.{most_nodes};
+ghost use Rattle.std.specs.Prelude.{◌≡◌, true, ◌+◌, ◌*◌, ◌/◌, ◌%◌, ◌≤◌, ltb};
 ghost use Rattle.rules.specs.Core.{reclassed};
-ghost use Rattle.rules.specs.Rows.{load, loads};
-ghost use Rattle.cells.specs.Layout.{half, request_of, request_code, share_of, latest_cell};
+ghost use Rattle.rules.specs.Rows.{loads};
+ghost use Rattle.cells.specs.Layout.{half, request_of, request_code, share_of};
 ghost use Rattle.cells.specs.Decode.{plan_in, core_of};
 ghost use Rattle.cells.specs.Waits.{turn_all, start_by};
-ghost use Rattle.cells.specs.Frames.{start_cells, start_nodes, start_frame, new_frame, advance_by};
+ghost use Rattle.cells.specs.Frames.{start_frame, new_frame, advance_by};
 
 use cells::Cascade;
 use plan_tree::Plan;
@@ -32,13 +30,7 @@ fn class_then(share: u32, x: u32) -> u32
     ensures half_value { result + x % half ≡ request_code (reclassed (share_of share) (request_of x)) }
     ensures upper_bound { result ≤ 131072 }
 {
-    if x < cells::HIGH {
-        return cells::NORMAL;
-    }
-    if share < cells::HALF {
-        return cells::NORMAL;
-    }
-    if share % cells::HALF < x % cells::HALF {
+    if x < cells::HIGH || share < cells::HALF || share % cells::HALF < x % cells::HALF {
         return cells::NORMAL;
     }
     cells::HIGH
@@ -54,34 +46,16 @@ fn reclassed(share: u32, x: u32) -> u32
     class_then(share, x) + x % cells::HALF
 }
 
-fn start_cells(s: &mut Cascade, k: u32)
-    requires { (1 ≤ k) × (k ≤ most_nodes) }
-    ensures { s.new ≡ start_cells k s.old }
-{
-    let at = k as usize - 1;
-    let share = s[cells::LATEST + at];
-    s[cells::REQUEST + at] = reclassed(share, s[cells::REQUEST + at]);
-    s[cells::FORCE + at] = share;
-    s[cells::GRANTED + at] = 0;
-}
-
-// Nodes n to 1. The call of itself is the last thing, so that the compiler makes a loop of it.
-fn start_nodes(s: &mut Cascade, n: u32)
-    requires { n ≤ most_nodes }
-    ensures { s.new ≡ start_nodes n s.old }
-{
-    if n == 0 {
-        return;
-    }
-    start_cells(s, n);
-    start_nodes(s, n - 1);
-}
-
 // Each node's cells, and then the masks.
 fn start_frame(p: &Plan, s: &mut Cascade)
     ensures { s.new ≡ start_frame p.now s.old }
 {
-    start_nodes(s, masks::nodes(p));
+    for at in (0..masks::nodes(p) as usize).rev() {
+        let share = s[cells::LATEST + at];
+        s[cells::REQUEST + at] = reclassed(share, s[cells::REQUEST + at]);
+        s[cells::FORCE + at] = share;
+        s[cells::GRANTED + at] = 0;
+    }
     masks::build(p, s);
 }
 
@@ -89,10 +63,7 @@ fn start_frame(p: &Plan, s: &mut Cascade)
 fn ends_by(frame: u32, clock: u64, t: u64) -> bool
     ensures { result ≡ ltb (clock / frame) (t / frame) }
 {
-    if t <= clock {
-        return false;
-    }
-    if frame == 0 {
+    if t <= clock || frame == 0 {
         return false;
     }
     let start = clock / frame as u64 * frame as u64;
@@ -144,33 +115,14 @@ pub fn load(overhead: u32, share: u32) -> u64
     (share / cells::HALF) as u64 * ((share % cells::HALF) as u64 + overhead as u64)
 }
 
-// The same with a bound, by which the sum of 256 of them fits.
-fn small_load(overhead: u32, share: u32) -> u64
-    ensures value { result ≡ share / half * (share % half + overhead) }
-    ensures upper_bound { result ≤ 1125899906842624 }
-{
-    load(overhead, share)
-}
-
-// The loads of nodes n to 1 on top of a sum. The call of itself is the last thing,
-// so that the compiler makes a loop of it: 256 calls in one another are slow.
-fn loads_onto(p: &Plan, s: &Cascade, n: u32, others: u64) -> u64
-    requires n_le_most_nodes { n ≤ most_nodes }
-    requires n_bound { others + n * 1125899906842624 ≤ 288230376151711744 }
-    ensures value { result ≡ others + sum n (λ k. load (plan_in p.now) (share_of (get_or s.now (latest_cell k) 0))) }
-    ensures upper_bound { result ≤ others + n * 1125899906842624 }
-{
-    if n == 0 {
-        return others;
-    }
-    let at = cells::LATEST + (n as usize - 1);
-    loads_onto(p, s, n - 1, others + small_load(p[plan::OVERHEAD], s[at]))
-}
-
 // The sum of n × (b + O) over all nodes, by their latest accepted reservations.
 pub fn loads(p: &Plan, s: &Cascade) -> u64
     ensures value { result ≡ loads (plan_in p.now) (core_of (plan_in p.now) s.now).latest }
     ensures upper_bound { result ≤ 288230376151711744 }
 {
-    loads_onto(p, s, masks::nodes(p), 0)
+    let mut all: u64 = 0;
+    for at in 0..masks::nodes(p) as usize {
+        all += load(p[plan::OVERHEAD], s[cells::LATEST + at]);
+    }
+    all
 }

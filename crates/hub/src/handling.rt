@@ -1,21 +1,20 @@
 // The step: the due instant is handled by a grant or a rest.
-ghost use Rattle.std.specs.Prelude.{◌≡◌, ◌+◌, ◌≤◌};
+ghost use Rattle.std.specs.Prelude.{◌≡◌, ◌+◌, ◌≤◌, Ok};
 ghost use Rattle.rules.specs.Rows.{last_time};
-ghost use Rattle.cells.specs.Calls.{bits_at, class_number, grant_by, rest_by, handled_by, step_due};
+ghost use Rattle.cells.specs.Sought.{is_high};
+ghost use Rattle.cells.specs.Step.{told_step};
+ghost use Rattle.cells.specs.Calls.{bits_at, grant_by, rest_by, handled_by, step_due};
 ghost use Rattle.cells.specs.Decode.{plan_in};
 ghost use Rattle.cells.specs.Instants.{sought_by, due_by};
 
-use cells::{Cascade, Due, Sought, Step, Turn};
+use cells::{Cascade, Class, Step, Turn};
 use plan_tree::Plan;
 
 // The length of node k's request; a number that is no node has none.
 fn bits_at(s: &Cascade, k: u32) -> u32
     ensures { result ≡ bits_at k s.now }
 {
-    if k < 1 {
-        return 0;
-    }
-    if cells::MOST_NODES < k {
+    if !(1..=cells::MOST_NODES).contains(&k) {
         return 0;
     }
     let x = s[cells::REQUEST + (k as usize - 1)];
@@ -33,30 +32,21 @@ fn end_of(d: u64, bits: u32, overhead: u32) -> u64
     d + bits as u64 + overhead as u64
 }
 
-fn class_number(high: bool) -> u32
-    ensures { result ≡ class_number high }
-{
-    if high {
-        return 2;
-    }
-    1
-}
-
 // A grant at d to a turn's node.
-fn grant_turn(p: &Plan, s: &mut Cascade, d: u64, high: bool, t: Turn) -> Step
+fn grant_turn(p: &Plan, s: &mut Cascade, d: u64, class: Class, t: Turn) -> Step
     requires { d ≤ last_time }
-    ensures value { result ≡ (grant_by p.now d high (record { turn = t; cells = s.old })).answer }
-    ensures s_after { s.new ≡ (grant_by p.now d high (record { turn = t; cells = s.old })).cells }
+    ensures value { told_step (Ok result) ≡ (grant_by p.now d (is_high class) (record { turn = t; cells = s.old })).answer }
+    ensures s_after { s.new ≡ (grant_by p.now d (is_high class) (record { turn = t; cells = s.old })).cells }
 {
     let node = t.node;
     let end = end_of(d, bits_at(s, node), p[plan::OVERHEAD]);
     let wait = waits::wait(s, d, node);
-    requests::grant_node(p, s, high, node);
+    requests::grant_node(p, s, class == Class::High, node);
     requests::busy_until(s, end);
     Step::Grant {
         time: d,
         node,
-        class: class_number(high),
+        class,
         end,
         moves: t.moves,
         wait,
@@ -65,7 +55,7 @@ fn grant_turn(p: &Plan, s: &mut Cascade, d: u64, high: bool, t: Turn) -> Step
 
 // A rest at d: control goes up to the root.
 fn rest(p: &Plan, s: &mut Cascade, d: u64) -> Step
-    ensures value { result ≡ (rest_by p.now d s.old).answer }
+    ensures value { told_step (Ok result) ≡ (rest_by p.now d s.old).answer }
     ensures s_after { s.new ≡ (rest_by p.now d s.old).cells }
 {
     let moves = control::climb(p, s[cells::HOLDER]);
@@ -77,29 +67,29 @@ fn rest(p: &Plan, s: &mut Cascade, d: u64) -> Step
 // The instant d is handled, the clock having come to it.
 fn handle(p: &Plan, s: &mut Cascade, d: u64) -> Step
     requires { d ≤ last_time }
-    ensures value { result ≡ (handled_by p.now d (sought_by s.old) s.old).answer }
+    ensures value { told_step (Ok result) ≡ (handled_by p.now d (sought_by s.old) s.old).answer }
     ensures s_after { s.new ≡ (handled_by p.now d (sought_by s.old) s.old).cells }
 {
     match instants::sought(s) {
-        Sought::Class { high } => {
-            let t = control::choose(p, s, high);
-            grant_turn(p, s, d, high, t)
+        Some(class) => {
+            let t = control::choose(p, s, class == Class::High);
+            grant_turn(p, s, d, class, t)
         }
-        Sought::Nothing => rest(p, s, d),
+        None => rest(p, s, d),
     }
 }
 
 // A step whose bound row 11 allows: the instant due before it is handled, if there is one.
 pub(crate) fn step_due(p: &Plan, s: &mut Cascade, t: u64) -> Step
     requires { t ≤ last_time }
-    ensures value { result ≡ (step_due p.now (due_by (plan_in p.now) s.old) t s.old).answer }
+    ensures value { told_step (Ok result) ≡ (step_due p.now (due_by (plan_in p.now) s.old) t s.old).answer }
     ensures s_after { s.new ≡ (step_due p.now (due_by (plan_in p.now) s.old) t s.old).cells }
 {
     match instants::due_before(p, s, t) {
-        Due::At(d) => {
+        Some(d) => {
             frames::advance(p, s, d);
             handle(p, s, d)
         }
-        Due::Never => Step::Quiet,
+        None => Step::Quiet,
     }
 }

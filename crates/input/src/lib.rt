@@ -4,28 +4,21 @@
 
 ghost use Rattle.input.specs.ReadInto.{ReadInto};
 
+use std::io;
 use std::io::Read;
 
-// How many bytes stand at the front of the buffer; or: a read failed.
-#[derive(Drop)]
-pub enum Input {
-    Read(usize),
-    Failed,
-}
-
-// Reads until the buffer is full, the input ends or a read fails. Each read but the last puts a byte into the buffer, so the loop ends.
-pub fn read_all<R: Read>(reader: &mut R, buffer: &mut [u8]) -> Input
+// Reads until the buffer is full, the input ends or a read fails; how many bytes stand at the front of the buffer.
+// Each read but the last puts a byte into the buffer, so the loop ends. How far each gets is the reader's, so there is nothing to count.
+pub fn read_all<R: Read>(reader: &mut R, buffer: &mut [u8]) -> io::Result<usize>
     ensures { ReadInto result buffer.new }
 {
     let mut at = 0;
     while at < buffer.len() {
-        let Ok(more) = reader.read(&mut buffer[at..]) else {
-            return Input::Failed;
-        };
+        let more = reader.read(&mut buffer[at..])?;
         if more == 0 {
-            return Input::Read(at);
+            return Ok(at);
         }
         at += more;
     }
-    Input::Read(at)
+    Ok(at)
 }

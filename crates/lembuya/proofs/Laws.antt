@@ -1,4 +1,5 @@
 -- What the exports tell of an answer, by the case that the callee's answer is.
+use Rattle.std.specs.Prelude.{Option, Some, None, Ok}
 use Prim.Native.Nat.{ℕ}
 use mathlib.Core.Path.{◌≡◌, refl, sym, ap, ◌∙◌}
 use mathlib.Core.List.{List}
@@ -10,22 +11,18 @@ use Rattle.rules.specs.Plan.{Plan}
 use Rattle.rules.specs.Core.{Core}
 use Rattle.rules.specs.Rows.{load}
 use Rattle.rules.proofs.Laws.Passes.{Which, which, yes', no'}
-use Rattle.plan.specs.declared.Answer.{Answer}
-use Rattle.plan.specs.declared.Answer.TheVariants.{Taken, Refused}
-use Rattle.writer.specs.declared.Put.{Put}
-use Rattle.writer.specs.declared.Put.TheVariants.{Behind, Short}
-use Rattle.writer.specs.Write.{put_number, put_answer, put_row}
-use Rattle.writer.proofs.Writes.{put_told_lem}
-use Rattle.cells.specs.declared.Step.{Step}
-use Rattle.cells.specs.declared.Step.TheVariants as step
+use Rattle.plan.specs.Answer.{Answer, Taken, Refused}
+use Rattle.cells.specs.declared.Step as code
+use Rattle.cells.specs.declared.Step.TheVariants as done
+use Rattle.cells.specs.Step.{Step, told_step}
+use Rattle.cells.specs.Step as step
 use Rattle.cells.specs.Decode.{plan_in, core_of}
-use Rattle.cells.specs.Calls.{step_by, step_answer, step_wait, perform_by}
+use Rattle.cells.specs.Calls.{step_answer, step_wait}
 use Rattle.offers.specs.Offers.{Offer, answer_to, clock_of}
-use Rattle.fit.specs.declared.Fit.{Fit}
-use Rattle.fit.specs.declared.Fit.TheVariants as fit
+use Rattle.fit.specs.Change.{Fit}
+use Rattle.fit.specs.Change as fit
 use Rattle.fit.specs.Fit.{frame_room, lower_packets, lower_bits, first_change, release_for, fit_within, fit_for}
-use Rattle.call_list.specs.Table.{Seven, seven_of, put_seven}
-use Rattle.call_list.proofs.Numbers.{step_seven, step_seven_lem}
+use Rattle.call_list.specs.Table.{Seven, seven_of, step_seven, put_seven}
 use Rattle.lembuya.specs.Exports.{read_number, put_told, step_number, put_step, put_fit, put_end}
 
 -- ---- a plan
@@ -33,12 +30,10 @@ use Rattle.lembuya.specs.Exports.{read_number, put_told, step_number, put_step, 
 abbrev Told : List ℕ → Answer → ℕ → List ℕ → Type 0
 Told told x r z = (r ≡ read_number x) × (z ≡ put_told x told)
 
-pub taken_told : (told : List ℕ) (nodes hubs at line : ℕ) {x : Answer} {z : List ℕ} {l : ℕ} → Taken nodes hubs at line ≡ x
-    → z ≡ set (set (set (set told 0 nodes) 1 hubs) 2 at) 3 l → l ≡ line → Told told x 0 z
+pub taken_told : (told : List ℕ) (nodes hubs at line : ℕ) {x : Answer} {z : List ℕ} → Taken nodes hubs at line ≡ x
+    → z ≡ set (set (set (set told 0 nodes) 1 hubs) 2 at) 3 line → Told told x 0 z
 unfolding read_number put_told
-taken_told told nodes hubs at line e written same =
-    let z = set (set (set told 0 nodes) 1 hubs) 2 at in
-    (ap read_number e, written ∙ ap (λ (n : ℕ). set z 3 n) same ∙ ap (λ (y : Answer). put_told y told) e)
+taken_told told nodes hubs at line e written = (ap read_number e, written ∙ ap (λ (y : Answer). put_told y told) e)
 
 pub refused_told : (told : List ℕ) (line number : ℕ) {x : Answer} → Refused line number ≡ x → Told told x number (set told 3 line)
 unfolding read_number put_told
@@ -46,31 +41,23 @@ refused_told told line number e = (ap read_number e, ap (λ (y : Answer). put_to
 
 -- ---- a step
 
--- what a step's answer x leaves, where y are its seven numbers
-unfoldable pub stored : Step → Seven → List ℕ → List ℕ
-stored (step.Grant time node class end moves wait) y answer = put_seven 0 y answer
-stored (step.Rest time moves) y answer = put_seven 0 y answer
-stored step.Quiet y answer = put_seven 0 y answer
-stored (step.Refused n) y answer = answer
+-- what is stored of a step that isn't refused, and the number that is answered
+pub stepped : (x : code.Step) (answer : List ℕ) {y : Step} {z : Seven} → z ≡ step_seven (told_step (Ok x)) → told_step (Ok x) ≡ y
+    → (z.number ≡ step_number y) × (put_seven 0 z answer ≡ put_step y answer)
+unfolding step_number put_step
+stepped x answer e same = (
+  ap (λ (w : Seven). w.number) e ∙ ap step_number same,
+  ap (λ (w : Seven). put_seven 0 w answer) e ∙ stored x ∙ ap (λ (w : Step). put_step w answer) same,
+)
+  where
+    stored : (x : code.Step) → put_seven 0 (step_seven (told_step (Ok x))) answer ≡ put_step (told_step (Ok x)) answer
+    stored (done.Grant time node class end moves wait) = refl
+    stored (done.Rest time moves) = refl
+    stored done.Quiet = refl
 
-put_stored : (x : Step) (answer : List ℕ) → stored x (seven_of (step_answer x) (step_wait x)) answer ≡ put_step x answer
-unfolding stored put_step
-put_stored (step.Grant time node class end moves wait) answer = refl
-put_stored (step.Rest time moves) answer = refl
-put_stored step.Quiet answer = refl
-put_stored (step.Refused n) answer = refl
-
--- the number of a step's answer x, what is stored of it and the cells left are those of the step
-pub stepped : (P : List ℕ) (t : ℕ) (s answer : List ℕ) {x : Step} {r : ℕ} {z ans : List ℕ} → x ≡ (step_by P t s).answer
-    → z ≡ (step_by P t s).cells → ans ≡ stored x (step_seven x) answer → r ≡ (step_seven x).number
-    → (r ≡ step_number (step_by P t s).answer)
-    × ((ans ≡ put_step (step_by P t s).answer answer) × (z ≡ (step_by P t s).cells))
-unfolding perform_by step_number
-stepped P t s answer {x} e cells left number =
-    let w = sym (step_seven_lem P t s e) in
-    let numbers = w ∙ ap (λ (y : Step). seven_of (step_answer y) (step_wait y)) (sym e) in
-    let ans = left ∙ ap (λ (y : Seven). stored x y answer) numbers ∙ put_stored x answer ∙ ap (λ (y : Step). put_step y answer) e in
-    (number ∙ ap (λ (y : Seven). y.number) w, (ans, cells))
+pub refused_step : (n : ℕ) (answer : List ℕ) {y : Step} → step.Refused n ≡ y → (n ≡ step_number y) × (answer ≡ put_step y answer)
+unfolding step_number put_step seven_of step_answer step_wait
+refused_step n answer same = (ap step_number same, ap (λ (w : Step). put_step w answer) same)
 
 -- ---- what would make it fit
 
@@ -120,23 +107,10 @@ fitted P s o change e now number left =
 
 -- ---- a run
 
--- the number of an answer x, by whether the bytes fit
-module _ (d bytes : List ℕ) where
-  row_told : {x : Put} → x ≡ put_answer d 0 bytes → put_number x ≡ put_row d 0 bytes
-  row_told {x} e = (put_told_lem d 0 bytes x _ e refl).2
-
-  pub behind_number : (z : ℕ) → Behind z ≡ put_answer d 0 bytes → put_row d 0 bytes ≡ 0
-  unfolding put_number
-  behind_number z e = sym (row_told e)
-
-  pub short_number : Short ≡ put_answer d 0 bytes → put_row d 0 bytes ≡ 18
-  unfolding put_number
-  short_number e = sym (row_told e)
-
-pub behind_end : (end : List ℕ) (z : ℕ) {x : Put} → Behind z ≡ x → set end 0 z ≡ put_end x end
+pub behind_end : (end : List ℕ) (z : ℕ) {x : Option ℕ} → Some z ≡ x → set end 0 z ≡ put_end x end
 unfolding put_end
-behind_end end z e = ap (λ (n : ℕ). set end 0 n) (omega arith) ∙ ap (λ (y : Put). put_end y end) e
+behind_end end z e = ap (λ (n : ℕ). set end 0 n) (omega arith) ∙ ap (λ (y : Option ℕ). put_end y end) e
 
-pub short_end : (end : List ℕ) {x : Put} → Short ≡ x → end ≡ put_end x end
+pub short_end : (end : List ℕ) {x : Option ℕ} → None ≡ x → end ≡ put_end x end
 unfolding put_end
-short_end end e = ap (λ (y : Put). put_end y end) e
+short_end end e = ap (λ (y : Option ℕ). put_end y end) e

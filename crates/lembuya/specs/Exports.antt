@@ -1,15 +1,12 @@
 -- Answers as the numbers that a caller in C or Rust gets.
-use Rattle.std.specs.Prelude.{ℕ, List, set}
-use Rattle.plan.specs.declared.Answer.{Answer}
-use Rattle.plan.specs.declared.Answer.TheVariants.{Taken, Refused}
-use Rattle.cells.specs.declared.Step.{Step}
-use Rattle.cells.specs.declared.Step.TheVariants as step
+use Rattle.std.specs.Prelude.{ℕ, List, set, Option, Some, None}
+use Rattle.plan.specs.Answer.{Answer, Taken, Refused}
+use Rattle.cells.specs.Step.{Step}
+use Rattle.cells.specs.Step as step
 use Rattle.cells.specs.Calls.{step_answer, step_wait}
 use Rattle.call_list.specs.Table.{seven_of, put_seven}
-use Rattle.fit.specs.declared.Fit.{Fit}
-use Rattle.fit.specs.declared.Fit.TheVariants as fit
-use Rattle.writer.specs.declared.Put.{Put}
-use Rattle.writer.specs.declared.Put.TheVariants.{Behind, Short}
+use Rattle.fit.specs.Change.{Fit}
+use Rattle.fit.specs.Change as fit
 
 -- a plan's number: 0 where it is taken
 unfoldable pub read_number : Answer → ℕ
@@ -40,6 +37,6 @@ put_fit (fit.Release j) s = set (set s 0 3) 1 j
 put_fit fit.Nothing s = set (set s 0 4) 1 0
 
 -- where a log ends; what was there where it didn't fit
-unfoldable pub put_end : Put → List ℕ → List ℕ
-put_end (Behind z) s = set s 0 z
-put_end Short s = s
+unfoldable pub put_end : Option ℕ → List ℕ → List ℕ
+put_end (Some z) s = set s 0 z
+put_end None s = s

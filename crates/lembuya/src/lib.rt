@@ -10,29 +10,29 @@ ghost use Rattle.writer.specs.Write.{put_answer, put_buffer, put_row};
 ghost use Rattle.plan.specs.Tables.{plan_of};
 ghost use Rattle.plan.specs.Reading.{reading, leaves};
 ghost use Rattle.cells.specs.Fresh.{fresh_cells};
+ghost use Rattle.cells.specs.Step.{list_answer};
 ghost use Rattle.cells.specs.Calls.{EventPromise, step_by};
 ghost use Rattle.offers.specs.Offers.{answer_to, clock_of, OffersPromise};
 ghost use Rattle.fit.specs.Fit.{fit_for};
-ghost use Rattle.call_list.specs.Table.{put_seven};
 ghost use Rattle.call_list.specs.Promise.{ListPromise};
 ghost use Rattle.log_spec.specs.Log.{log_bytes};
 ghost use Rattle.log_spec.specs.Cells.{plan_left, cells_left};
 ghost use Rattle.lembuya.specs.Exports.{read_number, put_told, step_number, put_step, put_fit, put_end};
 
-use cells::{Cascade, Step};
+use call_list::Seven;
+use cells::{Cascade, Misfit};
 use fit::Fit;
-use plan::Answer;
+use plan::Taken;
 use plan_tree::Plan;
-use writer::Put;
 
 // What a plan's reader tells: nodes, hubs, where the events start and on which line.
-fn tell(told: &mut [u64; 4], nodes: u32, hubs: u32, at: usize, line: usize)
-    ensures { told.new ≡ set (set (set (set told.old 0 nodes) 1 hubs) 2 at) 3 line }
+fn tell(told: &mut [u64; 4], taken: Taken)
+    ensures { told.new ≡ set (set (set (set told.old 0 taken.nodes) 1 taken.hubs) 2 taken.at) 3 taken.line }
 {
-    told[0] = nodes as u64;
-    told[1] = hubs as u64;
-    told[2] = at as u64;
-    told[3] = line as u64;
+    told[0] = taken.nodes as u64;
+    told[1] = taken.hubs as u64;
+    told[2] = taken.at as u64;
+    told[3] = taken.line as u64;
 }
 
 #[unsafe(no_mangle)]
@@ -42,18 +42,14 @@ pub extern "C" fn lembuya_read(text: &[u8], plan: &mut Plan, told: &mut [u64; 4]
     ensures told_after { told.new ≡ put_told (reading text.now).answer told.old }
 {
     match plan::read(text, plan) {
-        Answer::Taken {
-            nodes,
-            hubs,
-            at,
-            line,
-        } => {
-            tell(told, nodes, hubs, at, line);
+        Ok(taken) => {
+            tell(told, taken);
             0
         }
-        Answer::Refused { line, number } => {
-            told[3] = line as u64;
-            number as u32
+        Err(refused) => {
+            let number = u32::from(refused.row);
+            told[3] = refused.line as u64;
+            number
         }
     }
 }
@@ -69,10 +65,7 @@ pub extern "C" fn lembuya_longest(p: &Plan) -> u64
 pub extern "C" fn lembuya_strict(p: &Plan) -> u32
     ensures { result ≡ (if (plan_of p.now).strict then 1 else 0) }
 {
-    if p[plan::STRICT] != 0 {
-        return 1;
-    }
-    0
+    (p[plan::STRICT] != 0) as u32
 }
 
 #[unsafe(no_mangle)]
@@ -86,59 +79,35 @@ pub extern "C" fn lembuya_fresh(s: &mut Cascade)
 pub extern "C" fn lembuya_normal(p: &Plan, s: &mut Cascade, t: u64, k: u64, b: u64) -> u32
     ensures { EventPromise p.now (ask normal t k b) s.old result s.new }
 {
-    hub::normal(p, s, t, k, b)
+    cells::number(hub::normal(p, s, t, k, b))
 }
 
 #[unsafe(no_mangle)]
 pub extern "C" fn lembuya_high(p: &Plan, s: &mut Cascade, t: u64, k: u64, b: u64) -> u32
     ensures { EventPromise p.now (ask high t k b) s.old result s.new }
 {
-    hub::high(p, s, t, k, b)
+    cells::number(hub::high(p, s, t, k, b))
 }
 
 #[unsafe(no_mangle)]
 pub extern "C" fn lembuya_off(p: &Plan, s: &mut Cascade, t: u64, k: u64) -> u32
     ensures { EventPromise p.now (off t k) s.old result s.new }
 {
-    hub::off(p, s, t, k)
+    cells::number(hub::off(p, s, t, k))
 }
 
 #[unsafe(no_mangle)]
 pub extern "C" fn lembuya_reserve(p: &Plan, s: &mut Cascade, t: u64, k: u64, n: u64, b: u64) -> u32
     ensures { EventPromise p.now (reserve t k n b) s.old result s.new }
 {
-    hub::reserve(p, s, t, k, n, b)
+    cells::number(hub::reserve(p, s, t, k, n, b))
 }
 
 #[unsafe(no_mangle)]
 pub extern "C" fn lembuya_until(p: &Plan, s: &mut Cascade, t: u64) -> u32
     ensures { EventPromise p.now (until t) s.old result s.new }
 {
-    hub::until(p, s, t)
-}
-
-// The seven numbers of a step's answer; their first is returned.
-fn put_step(
-    answer: &mut [u64; 7],
-    number: u32,
-    time: u64,
-    node: u32,
-    class: u32,
-    end: u64,
-    moves: u64,
-    wait: u64,
-) -> u32
-    ensures answer_after { answer.new ≡ put_seven 0 (record { number = number; time = time; node = node; class = class; end = end; moves = moves; wait = wait }) answer.old }
-    ensures value { result ≡ number }
-{
-    answer[0] = number as u64;
-    answer[1] = time;
-    answer[2] = node as u64;
-    answer[3] = class as u64;
-    answer[4] = end;
-    answer[5] = moves;
-    answer[6] = wait;
-    number
+    cells::number(hub::until(p, s, t))
 }
 
 #[unsafe(no_mangle)]
@@ -148,17 +117,22 @@ pub extern "C" fn lembuya_step(p: &Plan, s: &mut Cascade, t: u64, answer: &mut [
     ensures s_after { s.new ≡ (step_by p.now t s.old).cells }
 {
     match hub::step(p, s, t) {
-        Step::Grant {
-            time,
-            node,
-            class,
-            end,
-            moves,
-            wait,
-        } => put_step(answer, 1, time, node, class, end, moves, wait),
-        Step::Rest { time, moves } => put_step(answer, 2, time, 0, 0, 0, moves, 0),
-        Step::Quiet => put_step(answer, 3, 0, 0, 0, 0, 0, 0),
-        Step::Refused(n) => n,
+        Ok(step) => {
+            let seven = Seven::from(step);
+            seven.put(answer, 0);
+            seven.number
+        }
+        Err(refusal) => u32::from(refusal),
+    }
+}
+
+// 0, or why nothing was done with the lists.
+fn list_number(answer: Result<(), Misfit>) -> u32
+    ensures { result ≡ list_answer answer }
+{
+    match answer {
+        Ok(()) => 0,
+        Err(misfit) => u32::from(misfit),
     }
 }
 
@@ -166,14 +140,14 @@ pub extern "C" fn lembuya_step(p: &Plan, s: &mut Cascade, t: u64, answer: &mut [
 pub extern "C" fn lembuya_list(p: &Plan, s: &mut Cascade, calls: &[u64], answers: &mut [u64]) -> u32
     ensures { ListPromise p.now s.old calls.now answers.old result s.new answers.new }
 {
-    call_list::list(p, s, calls, answers)
+    list_number(call_list::list(p, s, calls, answers))
 }
 
 #[unsafe(no_mangle)]
 pub extern "C" fn lembuya_offers(p: &Plan, s: &Cascade, offers: &[u64], answers: &mut [u8]) -> u32
     ensures { OffersPromise p.now (clock_of s.now) s.now offers.now answers.old result answers.new }
 {
-    offers::at_clock(p, s, offers, answers)
+    list_number(offers::at_clock(p, s, offers, answers))
 }
 
 // The case of a change and its number, and the 17 that they follow.
@@ -199,11 +173,12 @@ pub extern "C" fn lembuya_fit(
     ensures change_after { change.new ≡ put_fit (fit_for p.now (clock_of s.now) s.now (record { node = k; packets = n; bits = b })) change.old }
 {
     match fit::at_time(p, s, requests::clock(s), k, n, b) {
-        Fit::Answer(row) => row,
-        Fit::Packets(lower) => put_change(change, 1, lower),
-        Fit::Bits(lower) => put_change(change, 2, lower),
-        Fit::Release(node) => put_change(change, 3, node as u64),
-        Fit::Nothing => put_change(change, 4, 0),
+        Ok(Fit::Granted) => 0,
+        Ok(Fit::Packets(lower)) => put_change(change, 1, lower),
+        Ok(Fit::Bits(lower)) => put_change(change, 2, lower),
+        Ok(Fit::Release(node)) => put_change(change, 3, node as u64),
+        Ok(Fit::Nothing) => put_change(change, 4, 0),
+        Err(refusal) => u32::from(refusal),
     }
 }
 
@@ -222,10 +197,10 @@ pub extern "C" fn lembuya_run(
     ensures s_after { s.new ≡ cells_left text.now s.old log.old }
 {
     match text_run::run(text, plan, s, log) {
-        Put::Behind(z) => {
+        Some(z) => {
             end[0] = z as u64;
             0
         }
-        Put::Short => 18,
+        None => 18,
     }
 }

@@ -5,31 +5,21 @@
 ghost use Rattle.std.specs.Prelude.{◌≡◌, ◌+◌, ◌*◌, eqb, if◌then◌else◌};
 ghost use Rattle.std.proofs.Math.Option.{some};
 ghost use Rattle.event.specs.Call.{call_of};
-ghost use Rattle.log_spec.specs.Cells.{more, steps_by, budget_by, before_by, call_by, event_line_by};
-ghost use Rattle.line_run.specs.LineRun.{Ran, line_by};
+ghost use Rattle.log_spec.specs.Cells.{steps_by, budget_by, before_by, call_by, event_line_by};
+ghost use Rattle.line_run.specs.LineRun.{Moving, Ran, line_by};
 
-use cells::{Cascade, Step};
+use cells::{Cascade, Refusal, Step};
 use event::Event;
-use event_lines::Said;
 use plan_tree::Plan;
-use writer::Put;
 
-// Whether more steps may follow a step's answer.
-fn goes_on(a: Step) -> bool
-    ensures { result ≡ more a }
+// A step after which more may follow: a grant or a rest, and so one with a line.
+fn moving(answer: Result<Step, Refusal>) -> Option<Step>
+    ensures { Moving answer result }
 {
-    match a {
-        Step::Grant {
-            time: _,
-            node: _,
-            class: _,
-            end: _,
-            moves: _,
-            wait: _,
-        } => true,
-        Step::Rest { time: _, moves: _ } => true,
-        Step::Quiet => false,
-        Step::Refused(_) => false,
+    match answer {
+        Ok(Step::Quiet) => None,
+        Ok(step) => Some(step),
+        Err(_) => None,
     }
 }
 
@@ -42,25 +32,19 @@ fn steps(
     write: bool,
     buffer: &mut [u8],
     at: usize,
-) -> Put
+) -> Option<usize>
     ensures value { result ≡ (steps_by write p.now left t s.old buffer.old at).put }
     ensures s_after { s.new ≡ (steps_by write p.now left t s.old buffer.old at).cells }
     ensures buffer_after { buffer.new ≡ (steps_by write p.now left t s.old buffer.old at).buffer }
 {
-    let mut l = left;
     let mut z = at;
-    while l != 0 {
-        let a = hub::step(p, s, t);
-        if !goes_on(a) {
-            return Put::Behind(z);
-        }
-        let Put::Behind(next) = log_lines::step_line(a, write, buffer, z) else {
-            return Put::Short;
+    for _ in 0..left {
+        let Some(step) = moving(hub::step(p, s, t)) else {
+            return Some(z);
         };
-        z = next;
-        l -= 1;
+        z = log_lines::step_line(Ok(step), write, buffer, z)?;
     }
-    Put::Behind(z)
+    Some(z)
 }
 
 // Twice a number of requests, and one more while a line is busy.
@@ -81,7 +65,14 @@ fn budget(s: &Cascade) -> u64
 }
 
 // All steps before an event.
-fn before(p: &Plan, s: &mut Cascade, e: Event, write: bool, buffer: &mut [u8], at: usize) -> Put
+fn before(
+    p: &Plan,
+    s: &mut Cascade,
+    e: Event,
+    write: bool,
+    buffer: &mut [u8],
+    at: usize,
+) -> Option<usize>
     ensures value { result ≡ (before_by write p.now (some (call_of e)) s.old buffer.old at).put }
     ensures s_after { s.new ≡ (before_by write p.now (some (call_of e)) s.old buffer.old at).cells }
     ensures buffer_after { buffer.new ≡ (before_by write p.now (some (call_of e)) s.old buffer.old at).buffer }
@@ -99,16 +90,15 @@ fn call(
     write: bool,
     buffer: &mut [u8],
     at: usize,
-) -> Put
+) -> Option<usize>
     ensures value { result ≡ (call_by write p.now number (some (call_of e)) s.old buffer.old at).put }
     ensures s_after { s.new ≡ (call_by write p.now number (some (call_of e)) s.old buffer.old at).cells }
     ensures buffer_after { buffer.new ≡ (call_by write p.now number (some (call_of e)) s.old buffer.old at).buffer }
 {
-    let row = hub::event(p, s, e);
-    if row == 0 {
-        return Put::Behind(at);
+    match hub::event(p, s, e) {
+        Ok(()) => Some(at),
+        Err(row) => log_lines::refused_line(number as u64, u32::from(row), write, buffer, at),
     }
-    log_lines::refused_line(number as u64, row, write, buffer, at)
 }
 
 // One event: all steps before it, then the event.
@@ -120,15 +110,13 @@ fn event_line(
     write: bool,
     buffer: &mut [u8],
     at: usize,
-) -> Put
+) -> Option<usize>
     ensures value { result ≡ (event_line_by write p.now number (some (call_of e)) s.old buffer.old at).put }
     ensures s_after { s.new ≡ (event_line_by write p.now number (some (call_of e)) s.old buffer.old at).cells }
     ensures buffer_after { buffer.new ≡ (event_line_by write p.now number (some (call_of e)) s.old buffer.old at).buffer }
 {
-    match before(p, s, e, write, buffer, at) {
-        Put::Behind(z) => call(p, s, number, e, write, buffer, z),
-        Put::Short => Put::Short,
-    }
+    let z = before(p, s, e, write, buffer, at)?;
+    call(p, s, number, e, write, buffer, z)
 }
 
 // One line that the reader handed out: an event's, one that is none, the last one, whose LF is missing, or nothing is left.
@@ -141,17 +129,17 @@ pub fn line_of(
     write: bool,
     buffer: &mut [u8],
     at: usize,
-) -> Put
+) -> Option<usize>
     ensures { Ran (line_by write p.now bytes.now number ended s.old buffer.old at) result s.new buffer.new }
 {
     if ended {
-        return match event_lines::event_at(bytes, 0, bytes.len()) {
-            Said::Event(e) => event_line(p, s, number, e, write, buffer, at),
-            Said::NoEvent => log_lines::refused_line(number as u64, 1, write, buffer, at),
+        return match event_lines::event_at(bytes) {
+            Some(e) => event_line(p, s, number, e, write, buffer, at),
+            None => log_lines::refused_line(number as u64, 1, write, buffer, at),
         };
     }
-    if bytes.len() == 0 {
-        return Put::Behind(at);
+    if bytes.is_empty() {
+        return Some(at);
     }
     log_lines::refused_line(number as u64, 1, write, buffer, at)
 }

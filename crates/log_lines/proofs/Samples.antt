@@ -4,9 +4,9 @@ use mathlib.Core.List.{[], ◌∷◌}
 use Rattle.text.specs.Number.{digits, digits_by}
 use Rattle.text.specs.Form.{draw_form, draw_numbers}
 use Rattle.writer.specs.Write.{draw_line}
-use Rattle.plan.specs.declared.Answer.TheVariants.{Taken, Refused}
+use Rattle.plan.specs.Answer.{Taken, Refused}
 use Rattle.rules.specs.Call.{high, refused, grant}
-use Rattle.cells.specs.declared.Step.TheVariants.{Grant, Rest}
+use Rattle.cells.specs.Step.{Grant, Rest}
 use Rattle.log_lines.specs.FirstLine.{nodes_head, nodes_line, refused_line, first_line}
 use Rattle.log_lines.specs.Lines.{grant_line, rest_line, step_line, answer_line}
 

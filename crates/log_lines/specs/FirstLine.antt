@@ -2,8 +2,7 @@
 use Rattle.std.specs.Prelude.{ℕ, List, [], ◌∷◌, ◌++◌}
 use Rattle.text.specs.Number.{digits}
 use Rattle.writer.specs.Write.{draw_line}
-use Rattle.plan.specs.declared.Answer.{Answer}
-use Rattle.plan.specs.declared.Answer.TheVariants.{Taken, Refused}
+use Rattle.plan.specs.Answer.{Answer, Taken, Refused}
 
 -- `(nodes` and the space behind it
 abbrev pub nodes_word : List ℕ

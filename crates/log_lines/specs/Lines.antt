@@ -3,8 +3,7 @@ use Rattle.std.specs.Prelude.{ℕ, List, [], ◌∷◌}
 use Rattle.writer.specs.Write.{draw_line}
 use Rattle.log_lines.specs.FirstLine.{refused_line}
 use Rattle.rules.specs.Call.{Class, normal, high, Answer, taken, refused, grant, rest, quiet}
-use Rattle.cells.specs.declared.Step.{Step}
-use Rattle.cells.specs.declared.Step.TheVariants.{Grant, Rest, Quiet, Refused}
+use Rattle.cells.specs.Step.{Step, Grant, Rest, Quiet, Refused}
 
 -- `(grant`, `(rest`
 abbrev pub grant_word : List ℕ

@@ -7,20 +7,17 @@ use mathlib.Core.Option.{none, some}
 use native.Mathlib.Omega.{arith}
 use lib.Dec.{eqb}
 use lib.ListN.{length, drop, drop_of_length-le}
-use Rattle.std.specs.Prelude.{if◌then◌else◌}
+use Rattle.std.specs.Prelude.{if◌then◌else◌, Option, Some, None}
 use Rattle.rules.specs.Call.{Call, time, Answer}
 use Rattle.rules.specs.Control.{Control}
 use Rattle.rules.specs.Waits.{Watched}
 use Rattle.text.specs.Line.{Lines, nothing, unended, ended, lines, next_number, hand_out, next_line}
 use Rattle.text.specs.declared.Cursor.{Cursor}
-use Rattle.writer.specs.declared.Put.TheVariants.{Behind}
 use Rattle.plan.proofs.Reading.Agree.{First, first}
 use Rattle.log_lines.specs.FirstLine.{refused_line}
 use Rattle.event.specs.Call.{call_of}
 use Rattle.event.specs.declared.Event.{Event}
 use Rattle.event.specs.declared.Event.TheVariants.{Normal, High, Off, Reserve, Until}
-use Rattle.event_lines.specs.declared.Said.{Said}
-use Rattle.event_lines.specs.declared.Said.TheVariants as said
 use Rattle.event_lines.specs.Event.{event_of, call_on}
 use Rattle.cells.specs.Decode.{plan_in}
 use Rattle.cells.specs.Calls.{event_answer, row_by, event_by, Performed, event_left, perform_by}
@@ -52,7 +49,7 @@ module _ (write : Bool) (P : List ℕ) (R : Ready P) where
         go : (n : ℕ) (b : Bool) → Leads P (event_by P call s) (on_watched P call w).left
             → Writes write (event_line number (if b then Answer.taken else Answer.refused n)) buffer at
             (λ r. Leads P r (on_watched P call w).left)
-            (if b then record { put = Behind at; cells = event_by P call s; buffer = buffer } else line write (refused_line number n) (event_by P call s) buffer at)
+            (if b then record { put = Some at; cells = event_by P call s; buffer = buffer } else line write (refused_line number n) (event_by P call s) buffer at)
         go n true g = writes_none write buffer at _ (event_by P call s) g
         go n false g = writes_line write buffer at _ (refused_line number n) (event_by P call s) g
 
@@ -71,15 +68,15 @@ module _ (write : Bool) (P : List ℕ) (R : Ready P) where
   unfolding event_log event_line_by before_by call_by number_by cells_by
   no_form_log number s w leads buffer at = writes_line write buffer at _ (refused_line number 1) s leads
 
-  event_log_lem : (number : ℕ) (e : Said) (s : List ℕ) (w : Watched Control) → Leads P s w → (buffer : List ℕ) (at : ℕ)
+  event_log_lem : (number : ℕ) (e : Option Event) (s : List ℕ) (w : Watched Control) → Leads P s w → (buffer : List ℕ) (at : ℕ)
       → Logs write P (event_log (plan_in P) number (call_on e) w) buffer at (event_line_by write P number (call_on e) s buffer at)
   unfolding perform_by
-  event_log_lem number (said.Event (Normal t k b)) = call_log number (call_of (Normal t k b)) (λ s. refl)
-  event_log_lem number (said.Event (High t k b)) = call_log number (call_of (High t k b)) (λ s. refl)
-  event_log_lem number (said.Event (Off t k)) = call_log number (call_of (Off t k)) (λ s. refl)
-  event_log_lem number (said.Event (Reserve t k n b)) = call_log number (call_of (Reserve t k n b)) (λ s. refl)
-  event_log_lem number (said.Event (Until t)) = call_log number (call_of (Until t)) (λ s. refl)
-  event_log_lem number said.NoEvent = no_form_log number
+  event_log_lem number (Some (Normal t k b)) = call_log number (call_of (Normal t k b)) (λ s. refl)
+  event_log_lem number (Some (High t k b)) = call_log number (call_of (High t k b)) (λ s. refl)
+  event_log_lem number (Some (Off t k)) = call_log number (call_of (Off t k)) (λ s. refl)
+  event_log_lem number (Some (Reserve t k n b)) = call_log number (call_of (Reserve t k n b)) (λ s. refl)
+  event_log_lem number (Some (Until t)) = call_log number (call_of (Until t)) (λ s. refl)
+  event_log_lem number None = no_form_log number
 
   -- the event lines of a text
   module _ (text : List ℕ) where

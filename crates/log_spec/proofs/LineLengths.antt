@@ -1,23 +1,23 @@
 -- How long the lines of the log are at most, each with its LF, and how long an event's line is at least.
+use Rattle.std.specs.Prelude.{Option}
 use Prim.Native.Nat.{ℕ, zero, suc, ◌+◌, ◌≤◌, ◌<◌, ◌^◌}
 use mathlib.Core.Path.{◌≡◌, refl}
 use mathlib.Core.Bool.{Bool, true, false}
 use mathlib.Core.List.{List, [], ◌∷◌, ◌++◌}
-use mathlib.Core.Option.{Option, none, some}
+use mathlib.Core.Option as math
 use native.Mathlib.Omega.{arith}
 use lib.ListN.{length, drop, length-append, length-drop}
 use Rattle.rules.specs.Call.{Class, normal, high, Call}
 use Rattle.text.specs.Number.{digits}
 use Rattle.text.specs.Word.{starts_with, is_word}
-use Rattle.text.specs.Form.{draw_numbers, draw_form, read_close, read_numbers, read_behind, read_form, form_of}
+use Rattle.text.specs.Form.{draw_numbers, draw_form, read_close, read_numbers, read_behind, read_form}
 use Rattle.text.proofs.Digits.{digits-length}
 use Rattle.text.proofs.Words.{starts_length}
 use Rattle.writer.specs.Write.{draw_line}
 use Rattle.log_lines.specs.FirstLine.{nodes_word, hubs_word, refused_word, nodes_head, nodes_line, refused_line}
 use Rattle.log_lines.specs.Lines.{grant_word, rest_word, grant_line, rest_line, class_number}
 use Rattle.event.specs.declared.Event.{Event}
-use Rattle.event_lines.specs.declared.Said.{Said}
-use Rattle.event_lines.specs.Event.{normal_word, high_word, off_word, reserve_word, until_word, or_else, formed, event_of, call_on}
+use Rattle.event_lines.specs.Event.{normal_word, high_word, off_word, reserve_word, until_word, or_else, event_of, call_on}
 
 -- each number with the space before it
 spaced : List ℕ → ℕ
@@ -90,29 +90,29 @@ nodes_length nodes hubs a b =
     )
 
 -- a line that is a call starts with its word and has more bytes behind it, so it has at least 5
-abbrev pub Long : List ℕ → Option Call → Type 0
-Long l none = Unit {0}
-Long l (some call) = 5 ≤ length l
+abbrev pub Long : List ℕ → math.Option Call → Type 0
+Long l math.none = Unit {0}
+Long l (math.some call) = 5 ≤ length l
 
 module _ (l : List ℕ) where
-  form_long : (word : List ℕ) (count : ℕ) (event : ℕ → ℕ → ℕ → ℕ → Event) (otherwise : Said) → 4 ≤ length word
-      → Long l (call_on otherwise) → Long l (call_on (or_else (formed word count l) event otherwise))
+  form_long : (word : List ℕ) (count : ℕ) (event : ℕ → ℕ → ℕ → ℕ → Event) (otherwise : Option Event) → 4 ≤ length word
+      → Long l (call_on otherwise) → Long l (call_on (or_else (read_form word count l) event otherwise))
   unfolding read_form
   form_long word count event otherwise w other = go (starts_with word l) refl
     where
-      by_numbers : 5 ≤ length l → (o : Option (List ℕ)) → Long l (call_on (or_else (form_of o) event otherwise))
-      by_numbers h none = unfold form_of in other
-      by_numbers h (some ns) = unfold form_of in h
+      by_numbers : 5 ≤ length l → (o : math.Option (List ℕ)) → Long l (call_on (or_else o event otherwise))
+      by_numbers h math.none = other
+      by_numbers h (math.some ns) = h
 
       -- a word alone is no form
-      behind : (s : List ℕ) (n : ℕ) → length word + length s ≤ length l → Long l (call_on (or_else (form_of (read_numbers n s)) event otherwise))
-      behind [] zero h = unfold read_numbers read_close is_word form_of in other
-      behind [] (suc n) h = unfold read_numbers form_of in other
+      behind : (s : List ℕ) (n : ℕ) → length word + length s ≤ length l → Long l (call_on (or_else (read_numbers n s) event otherwise))
+      behind [] zero h = unfold read_numbers read_close is_word in other
+      behind [] (suc n) h = unfold read_numbers in other
       behind (b ∷ s) n h = by_numbers (omega arith) (read_numbers n (b ∷ s))
 
-      go : (b : Bool) → starts_with word l ≡ b → Long l (call_on (or_else (form_of (read_behind b count (drop (length word) l))) event otherwise))
+      go : (b : Bool) → starts_with word l ≡ b → Long l (call_on (or_else (read_behind b count (drop (length word) l)) event otherwise))
       go true e = unfold read_behind in behind (drop (length word) l) count (omega (arith, starts_length word l e, length-drop (length word) l))
-      go false e = unfold read_behind form_of in other
+      go false e = unfold read_behind in other
 
   pub call_long : Long l (call_on (event_of l))
   unfolding event_of

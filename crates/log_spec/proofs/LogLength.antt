@@ -11,8 +11,7 @@ use Rattle.rules.specs.Run.{made}
 use Rattle.rules.specs.Waits.{fresh_watched}
 use Rattle.text.specs.Line.{lines, draw_lines}
 use Rattle.text.proofs.Lines.{draw-lines}
-use Rattle.plan.specs.declared.Answer.{Answer}
-use Rattle.plan.specs.declared.Answer.TheVariants.{Taken, Refused}
+use Rattle.plan.specs.Answer.{Answer, Taken, Refused}
 use Rattle.plan.specs.Tables.{plan_of}
 use Rattle.plan.specs.Reading.{reading}
 use Rattle.plan_theory.specs.Taken.{TakenAs}

@@ -12,7 +12,7 @@ use Rattle.rules.specs.Machine.{Hub, perform}
 use Rattle.rules.specs.Control.{Control, control}
 use Rattle.rules.specs.Waits.{Watched, fresh_watched}
 use Rattle.text.specs.Line.{Lines, nothing, unended, ended, lines, next_number}
-use Rattle.plan.specs.declared.Answer as plan
+use Rattle.plan.specs.Answer as plan
 use Rattle.plan.specs.Reading.{reading}
 use Rattle.plan_theory.proofs.TakenPlan.{taken_plan}
 use Rattle.log_lines.specs.Handed.{handed}

@@ -23,8 +23,8 @@ use Rattle.rules.proofs.Core.CallCases.{Course, refusal, quietly}
 use Rattle.rules.proofs.Promised.NoTimeLost.{no_time_lost}
 use Rattle.rules.proofs.Control.FollowsFlat.{control_follows}
 use Rattle.text.specs.Line.{Lines, nothing, unended, ended, lines, next_number}
-use Rattle.plan.specs.declared.Answer as plan
-use Rattle.plan.specs.declared.Answer.TheVariants.{Taken, Refused}
+use Rattle.plan.specs.Answer as plan
+use Rattle.plan.specs.Answer.{Taken, Refused}
 use Rattle.plan.specs.Tables.{plan_of}
 use Rattle.plan.specs.Reading.{reading}
 use Rattle.plan_theory.proofs.TakenPlan.{taken_plan}

@@ -1,6 +1,7 @@
 -- A pass over the lent tables and the lent buffer writes, or measures, the log of the text:
 -- it answers as writing the log's lines one by one does, and leaves the same buffer; and
 -- the cells that it leaves are the watched hub behind the last event.
+use Rattle.std.specs.Prelude.{Some}
 use Prim.Native.Nat.{ℕ, suc, ◌+◌}
 use mathlib.Core.Path.{◌≡◌, refl, sym, subst, ap, ◌∙◌}
 use mathlib.Core.Bool.{Bool, true, false}
@@ -14,12 +15,10 @@ use Rattle.rules.specs.Waits.{Watched, fresh_watched}
 use Rattle.rules.proofs.Laws.Passes.{Which, which, yes', no'}
 use Rattle.text.specs.Line.{lines}
 use Rattle.writer.specs.Write.{fits}
-use Rattle.plan.specs.declared.Answer.{Answer}
-use Rattle.plan.specs.declared.Answer.TheVariants.{Taken, Refused}
+use Rattle.plan.specs.Answer.{Answer, Taken, Refused}
 use Rattle.plan.specs.Reading.{reading}
 use Rattle.log_lines.specs.Handed.{handed}
 use Rattle.log_lines.specs.FirstLine.{nodes_line, refused_line, first_line}
-use Rattle.writer.specs.declared.Put.TheVariants.{Behind}
 use Rattle.cells.specs.Decode.{plan_in, hub_of}
 use Rattle.cells.specs.Waits.{times_of}
 use Rattle.cells.specs.Fresh.{fresh_cells}
@@ -48,7 +47,7 @@ module _ (write : Bool) (text s buffer : List ℕ) where
   unfolding plan_log behind_plan first_line
   plan_log_lem (Refused l number) e =
       writes_on write buffer 0 (λ r. r ≡ s) (λ r. r ≡ s) (refused_line l number ∷ []) [] (line write (refused_line l number) s buffer 0)
-      (λ r b z. record { put = Behind z; cells = r; buffer = b }) (writes_line write buffer 0 _ (refused_line l number) s refl) (λ r b z q. writes_none write b z _ r q)
+      (λ r b z. record { put = Some z; cells = r; buffer = b }) (writes_line write buffer 0 _ (refused_line l number) s refl) (λ r b z q. writes_none write b z _ r q)
   plan_log_lem (Taken nodes hubs at number) e =
       subst
       (λ (p : Plan).
@@ -69,7 +68,7 @@ pass_writes write text s buffer = (plan_log_lem write (handed text) s buffer (re
 
 -- the cells that a pass leaves where the whole log fits
 module _ (text s buffer : List ℕ) (fit : fits buffer 0 (log_bytes text) ≡ true) where
-  whole : (pass_by true text s buffer).put ≡ Behind (0 + length (log_bytes text))
+  whole : (pass_by true text s buffer).put ≡ Some (0 + length (log_bytes text))
   unfolding log_bytes
   whole =
       ap (λ (w : Written). w.put)

@@ -6,7 +6,7 @@ use mathlib.Core.List.{List, [], ◌∷◌, ◌++◌, flatten}
 use Rattle.text.specs.Number.{digits_by, digits, digit_run, keep_digit, well_formed, value_from, read_run, read_number}
 use Rattle.text.specs.Line.{before, lines}
 use Rattle.text.specs.Word.{starts_with, is_word}
-use Rattle.text.specs.Form.{draw_numbers, draw_form, and_then, read_spaced, read_close, read_numbers, read_behind, read_form, form_of}
+use Rattle.text.specs.Form.{draw_numbers, draw_form, and_then, read_spaced, read_close, read_numbers, read_behind, read_form}
 use Rattle.writer.specs.Write.{draw_line}
 use Rattle.plan_tree.specs.Kind.{kind_of}
 use Rattle.plan_tree.specs.Tables.{put_empty, put_node, put_hub, put_ports, put_root}
@@ -49,7 +49,7 @@ pub record Examples : Type 0 where
 pub examples : Examples
 unfolding
     flatten bytes text_of handed
-    before lines digit_run keep_digit well_formed value_from read_run read_number starts_with is_word and_then read_spaced read_close read_numbers read_behind read_form form_of
+    before lines digit_run keep_digit well_formed value_from read_run read_number starts_with is_word and_then read_spaced read_close read_numbers read_behind read_form
     kind_of reading frame_line overhead_line interrupt_line framing_line strict_line root_line hub_lines put_root put_node put_empty put_hub put_ports put_figures plan_of
     any sum first advance counts_in counts held due sought below lowest walk led nearest choose_by perform come_to
     event_of steps steps_before event_log events_log plan_log log_of

@@ -4,7 +4,7 @@ use mathlib.Core.Path.{◌≡◌, refl, sym, subst₂}
 use mathlib.Core.Bool.{Bool, true, false}
 use mathlib.Core.List.{List, [], ◌∷◌}
 use lib.Dec.{ltb, eqb}
-use Rattle.std.specs.Prelude.{if◌then◌else◌}
+use Rattle.std.specs.Prelude.{if◌then◌else◌, Option, Some, None}
 use Rattle.rules.specs.Plan.{Plan}
 use Rattle.rules.specs.Call.{step, Answer}
 use Rattle.rules.specs.Machine.{perform}
@@ -12,18 +12,13 @@ use Rattle.rules.specs.Rows.{row11}
 use Rattle.rules.specs.Control.{Control, control}
 use Rattle.rules.specs.Waits.{Watched}
 use Rattle.rules.proofs.Laws.Passes.{Which, which, yes', no'}
-use Rattle.writer.specs.declared.Put.TheVariants.{Behind}
 use Rattle.log_lines.specs.Lines.{class_number, grant_line, rest_line, step_line, answer_line}
-use Rattle.cells.specs.declared.Due.{Due}
-use Rattle.cells.specs.declared.Due.TheVariants.{At, Never}
-use Rattle.cells.specs.declared.Sought.{Sought}
-use Rattle.cells.specs.declared.Sought.TheVariants.{Class, Nothing}
-use Rattle.cells.specs.declared.Step.{Step}
-use Rattle.cells.specs.declared.Step.TheVariants.{Grant, Rest, Quiet, Refused}
+use Rattle.cells.specs.Sought.{Sought, Class, Nothing}
+use Rattle.cells.specs.Step as cells
+use Rattle.cells.specs.Step.{Step, Grant, Rest, Quiet, Refused}
 use Rattle.cells.specs.Decode.{plan_in}
 use Rattle.cells.specs.Frames.{advance_by}
 use Rattle.cells.specs.Instants.{due_by, sought_by}
-use Rattle.cells.specs.Calls as calls
 use Rattle.cells.specs.Calls.{class_numbered, grant_by, rest_by, handled_by, step_due, row_by, step_by, step_answer, step_wait, perform_by}
 use Rattle.refinement.specs.Kept.{Ready}
 use Rattle.log_spec.specs.Log.{Logged, after_step, steps, steps_before, budget}
@@ -38,7 +33,7 @@ Numbered (Rest s moves) = Unit {0}
 Numbered Quiet = Unit {0}
 Numbered (Refused n) = Unit {0}
 
-class_numbered_lem : (is_high : Bool) → class_number (class_numbered (calls.class_number is_high)) ≡ calls.class_number is_high
+class_numbered_lem : (is_high : Bool) → class_number (class_numbered (cells.class_number is_high)) ≡ cells.class_number is_high
 class_numbered_lem true = refl
 class_numbered_lem false = refl
 
@@ -48,10 +43,10 @@ module _ (P : List ℕ) (t : ℕ) where
   handled_numbered d (Class is_high) s = class_numbered_lem is_high
   handled_numbered d Nothing s = tt
 
-  due-numbered : (d : Due) (s : List ℕ) → Numbered (step_due P d t s).answer
+  due-numbered : (d : Option ℕ) (s : List ℕ) → Numbered (step_due P d t s).answer
   unfolding step_due
-  due-numbered Never s = tt
-  due-numbered (At d) s = go (ltb d t)
+  due-numbered None s = tt
+  due-numbered (Some d) s = go (ltb d t)
     where
       go : (b : Bool) → Numbered (if b then handled_by P d (sought_by (advance_by P d s)) (advance_by P d s) else record { answer = Quiet; cells = s }).answer
       go true = handled_numbered d (sought_by (advance_by P d s)) (advance_by P d s)
@@ -83,7 +78,7 @@ module _
 
     after : (a : Step) → Numbered a
         → Logs write P (after_step (plan_in P) (steps (plan_in P) n t) (step_answer a) (step_wait a) w) buffer at
-        (if more a then going_on (steps_by write P n t) (line write (step_line a) s buffer at) else record { put = Behind at; cells = s; buffer = buffer })
+        (if more a then going_on (steps_by write P n t) (line write (step_line a) s buffer at) else record { put = Some at; cells = s; buffer = buffer })
     unfolding step_answer step_wait step_line answer_line
     after (Grant d k class end moves wait) e = rw e (written (grant_line d k class end moves wait))
     after (Rest d moves) e = written (rest_line d moves)

@@ -6,7 +6,7 @@ use Rattle.rules.specs.Control.{Control, control}
 use Rattle.rules.specs.Waits.{Watched, fresh_watched}
 use Rattle.text.specs.Line.{Lines, nothing, unended, ended, lines, next_number}
 use Rattle.writer.specs.Write.{fits}
-use Rattle.plan.specs.declared.Answer.TheVariants.{Taken, Refused}
+use Rattle.plan.specs.Answer.{Taken, Refused}
 use Rattle.plan.specs.Reading.{reading}
 use Rattle.log_lines.specs.Handed.{handed}
 use Rattle.event_lines.specs.Event.{event_of, call_on}

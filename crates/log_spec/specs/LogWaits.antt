@@ -9,7 +9,7 @@ use Rattle.rules.specs.Machine.{perform}
 use Rattle.rules.specs.Control.{control}
 use Rattle.rules.specs.Run.{made}
 use Rattle.rules.specs.Waits.{WaitTold}
-use Rattle.plan.specs.declared.Answer.TheVariants.{Taken}
+use Rattle.plan.specs.Answer.{Taken}
 use Rattle.plan.specs.Reading.{reading}
 use Rattle.log_lines.specs.Handed.{handed}
 use Rattle.log_lines.specs.FirstLine.{refused_line}

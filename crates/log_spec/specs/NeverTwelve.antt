@@ -11,8 +11,8 @@ use Rattle.rules.specs.Rows.{row11}
 use Rattle.rules.specs.Machine.{perform}
 use Rattle.rules.specs.Control.{Control, control}
 use Rattle.rules.specs.Waits.{Watched, fresh_watched}
-use Rattle.plan.specs.declared.Answer as plan
-use Rattle.plan.specs.declared.Answer.TheVariants.{Taken, Refused}
+use Rattle.plan.specs.Answer as plan
+use Rattle.plan.specs.Answer.{Taken, Refused}
 use Rattle.plan.specs.Tables.{plan_of}
 use Rattle.plan.specs.Reading.{reading}
 use Rattle.log_lines.specs.Handed.{handed}

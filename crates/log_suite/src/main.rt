@@ -2,27 +2,9 @@
 // with a line `--` behind it. Where standard input or output fails it says so on standard error.
 #![tactic(auto)]
 
-ghost use Rattle.std.specs.Prelude.{◌≤◌, length};
-
 use cells::Cascade;
-use input::Input;
 use plan_tree::Plan;
 use std::io::Read;
-
-// Where the text that starts at a place ends: the next byte 0, or the end of all texts.
-fn text_end(texts: &[u8], at: usize) -> usize
-    requires { at ≤ length texts.now }
-    ensures { (at ≤ result) × (result ≤ length texts.now) }
-{
-    let mut i = at;
-    while i < texts.len() {
-        if texts[i] == 0 {
-            return i;
-        }
-        i += 1;
-    }
-    i
-}
 
 // The log of one text and the line behind it, through what is lent; whether both are written.
 fn write_log(
@@ -37,7 +19,7 @@ fn write_log(
     rt.write_all(&log[..end]).is_ok() && rt.write_all(b"--\n").is_ok()
 }
 
-// The logs of all texts, as far as they can be written; whether all are. The texts are finite, so what is left of them falls.
+// The logs of all texts, as far as they can be written; whether all are.
 fn write_logs(
     rt: &impl Print,
     texts: &[u8],
@@ -45,13 +27,10 @@ fn write_logs(
     s: &mut Cascade,
     out: &mut [u8; text_run::LONGEST_LOG],
 ) -> bool {
-    let mut at = 0;
-    while at <= texts.len() {
-        let end = text_end(texts, at);
-        if !write_log(rt, &texts[at..end], plan, s, out) {
+    for text in texts.split(|b| *b == 0) {
+        if !write_log(rt, text, plan, s, out) {
             return false;
         }
-        at = end + 1;
     }
     true
 }
@@ -66,12 +45,12 @@ fn read_texts(
     out: &mut [u8; text_run::LONGEST_LOG],
 ) {
     match input::read_all(reader, texts) {
-        Input::Read(n) => {
+        Ok(n) => {
             if !write_logs(rt, &texts[..n], plan, s, out) {
                 let _ = rt.eprintln("log_suite: standard output can't be written");
             }
         }
-        Input::Failed => {
+        Err(_) => {
             let _ = rt.eprintln("log_suite: standard input can't be read");
         }
     }

@@ -1,21 +1,19 @@
 -- The masks built anew, one law a way through the tests: cleared, a port shown, the nodes' requests, and the hubs' summaries.
-use Prim.Native.Nat.{ℕ, zero, suc, ◌-◌, ◌≤◌, ◌<◌}
+use Prim.Native.Nat.{ℕ, zero, suc, ◌-◌, ◌≤◌}
 use mathlib.Core.Path.{◌≡◌, refl, ap, ◌∙◌}
 use mathlib.Core.Bool.{Bool, true, false}
 use mathlib.Core.List.{List}
-use mir.Val.{bool_byte}
 use native.Mathlib.Numerals.{unary_clauses}
 use lib.Dec.{leb}
 use lib.ListN.{get_or, set}
-use borrow.Author.Tests.{lt-ltb, le-ltb}
 use Rattle.rules.specs.Plan.{most_hubs}
 use Rattle.ports.specs.Ports.{with_port}
 use Rattle.ports.specs.Mask.{shows, mask_of}
-use Rattle.ports.proofs.Digits.{byte_digit}
 use Rattle.plan_tree.specs.Tables as plan
-use Rattle.cells.specs.Layout.{hub_cell, mask_cell, request_cell}
+use Rattle.cells.specs.Layout.{mask_cell, request_cell}
 use Rattle.cells.specs.Decode.{plan_in}
 use Rattle.cells.specs.Build.{clear_masks, show_port, show_request, show_nodes, summary, show_hub, show_hubs, hubs_in, build_masks}
+use Rattle.cells.proofs.Within.{of_hub, no_hub}
 
 pub cleared_none : (n : ℕ) (s : List ℕ) → n ≡ 0 → s ≡ clear_masks n s
 unfolding clear_masks
@@ -29,18 +27,14 @@ cleared_some (suc n) s h = simp unary_clauses
 -- ---- one port
 
 module _ (high : Bool) (g q : ℕ) (b : Bool) (s : List ℕ) where
-  pub no_hub : g < 1 → s ≡ show_port high g q b s
+  pub no_port : ¬ ((1 ≤ g) × (g ≤ most_hubs)) → s ≡ show_port high g q b s
   unfolding show_port
-  no_hub h = simp (lt-ltb _ _ h)
+  no_port other = no_hub g _ s other
 
-  pub past_hubs : 1 ≤ g → most_hubs < g → s ≡ show_port high g q b s
+  pub port_shown : (at m : ℕ) → 1 ≤ g → g ≤ most_hubs → at ≡ mask_cell high g → m ≡ mask_of (with_port (shows (get_or s at 0)) q b)
+      → set s at m ≡ show_port high g q b s
   unfolding show_port
-  past_hubs l h = simp (le-ltb _ _ l, lt-ltb _ _ h)
-
-  pub port_shown : (m : ℕ) → 1 ≤ g → g ≤ most_hubs → m ≡ mask_of (with_port (shows (get_or s (hub_cell g (bool_byte high)) 0)) q b)
-      → set s (hub_cell g (bool_byte high)) m ≡ show_port high g q b s
-  unfolding show_port
-  port_shown m l h e = simp (e, byte_digit high, le-ltb _ _ l, le-ltb _ _ h)
+  port_shown at m l h f e = rw (e, f) (of_hub g _ s l h)
 
 -- ---- the nodes
 
@@ -59,9 +53,9 @@ module _ (P s : List ℕ) (n : ℕ) where
   shown high normal =
       show_port (leb high (get_or s (request_cell n) 0)) (plan.hub_of_node P n) (plan.port_of_node P n) (leb normal (get_or s (request_cell n) 0)) s
 
-  pub some_nodes : (r z : List ℕ) → (n ≡ 0 → ⊥) → r ≡ shown 131072 65536 → z ≡ show_nodes P (n - 1) r → z ≡ show_nodes P n s
+  pub some_nodes : (r : List ℕ) → (n ≡ 0 → ⊥) → r ≡ shown 131072 65536 → show_nodes P (n - 1) r ≡ show_nodes P n s
   unfolding show_request
-  some_nodes r z h e i = i ∙ ap (show_nodes P (n - 1)) e ∙ nodes_step P s n h
+  some_nodes r h e = ap (show_nodes P (n - 1)) e ∙ nodes_step P s n h
 
 -- ---- the hubs
 
@@ -81,12 +75,11 @@ module _ (P s : List ℕ) (n : ℕ) where
   abbrev place : ℕ
   place = get_or P (plan.place_cell n) 0
 
-  pub some_hubs : (normal high : Bool) (r t z : List ℕ) → (n ≡ 0 → ⊥) → normal ≡ summary false n s → high ≡ summary true n s
-      → r ≡ show_port false parent place normal s → t ≡ show_port true parent place high r → z ≡ show_hubs P (n - 1) t → z ≡ show_hubs P n s
+  pub some_hubs : (normal high : Bool) (r t : List ℕ) → (n ≡ 0 → ⊥) → normal ≡ summary false n s → high ≡ summary true n s
+      → r ≡ show_port false parent place normal s → t ≡ show_port true parent place high r → show_hubs P (n - 1) t ≡ show_hubs P n s
   unfolding show_hub
-  some_hubs normal high r t z h a b e f i =
-      i
-      ∙ ap (show_hubs P (n - 1))
+  some_hubs normal high r t h a b e f =
+      ap (show_hubs P (n - 1))
       (f ∙ ap (λ (x : Bool). show_port true parent place x r) b ∙ ap (show_port true parent place (summary true n s)) (e ∙ ap (λ (x : Bool). show_port false parent place x s) a))
       ∙ hubs_step P s n h
 

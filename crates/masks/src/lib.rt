@@ -4,86 +4,67 @@
 // table that it leaves, for every content, by a definition of `cells`.
 #![tactic(auto)]
 
-ghost use Rattle.std.specs.Prelude.{◌≡◌, true, false, ◌≤◌};
-ghost use Rattle.rules.specs.Plan.{most_nodes, most_hubs};
+ghost use Rattle.std.specs.Prelude.{◌≡◌, ◌≤◌};
+ghost use Rattle.rules.specs.Plan.{most_hubs};
 ghost use Rattle.cells.specs.Decode.{plan_in};
 ghost use Rattle.cells.specs.Build.{clear_masks, show_port, show_nodes, show_hubs, hubs_in, build_masks};
 
-use cells::Cascade;
+use cells::{Cascade, Hub};
 use plan_tree::Plan;
 
 // How many nodes the plan has; no more than the table has cells for.
 pub fn nodes(p: &Plan) -> u32
     ensures { result ≡ (plan_in p.now).nodes }
 {
-    let n = p[plan::NODE_COUNT];
-    if n < cells::MOST_NODES {
-        n
-    } else {
-        cells::MOST_NODES
-    }
+    p[plan::NODE_COUNT].min(cells::MOST_NODES)
 }
 
 // How many hubs it has; no more than the table has cells for.
 fn hubs(p: &Plan) -> u32
     ensures { result ≡ hubs_in p.now }
 {
-    let n = p[plan::HUB_COUNT];
-    if n < cells::MOST_HUBS {
-        n
-    } else {
-        cells::MOST_HUBS
-    }
+    p[plan::HUB_COUNT].min(cells::MOST_HUBS)
 }
 
-// Hubs n to 1 show nothing. Here and below the call of itself is the last thing, so that the compiler makes a loop of it.
+// Hubs n to 1 show nothing.
 fn clear_masks(s: &mut Cascade, n: u32)
     requires { n ≤ most_hubs }
     ensures { s.new ≡ clear_masks n s.old }
 {
-    if n == 0 {
-        return;
+    for hub in (0..n as usize).rev() {
+        let at = cells::HUBS + hub * cells::PER_HUB;
+        s[at + cells::MASK] = 0;
+        s[at + cells::HIGH_MASK] = 0;
     }
-    let at = cells::HUBS + (n as usize - 1) * cells::PER_HUB;
-    s[at + cells::MASK] = 0;
-    s[at + cells::HIGH_MASK] = 0;
-    clear_masks(s, n - 1);
 }
 
-// Port q of hub g shows what it showed, or b. The masks are the first of a hub's cells, the normal class's before the high one's.
+// Port q of hub g shows what it showed, or b.
 fn show_port(s: &mut Cascade, high: bool, g: u32, q: u32, b: bool)
     ensures { s.new ≡ show_port high g q b s.old }
 {
-    if g < 1 {
+    let Some(hub) = Hub::new(g) else {
         return;
-    }
-    if cells::MOST_HUBS < g {
-        return;
-    }
-    let at = cells::HUBS + (g as usize - 1) * cells::PER_HUB + high as usize;
+    };
+    let at = hub.mask(high);
     s[at] = ports::with_port(s[at], q, b);
 }
 
-// Nodes n to 1: the port of each shows in its class whether a request stands.
+// The nodes, from the last to the first: the port of each shows in its class whether a request stands.
 // There is no test for it: the processor couldn't foresee its outcome, and each wrong guess costs more than an or of nothing.
-fn show_nodes(p: &Plan, s: &mut Cascade, n: u32)
-    requires { n ≤ most_nodes }
-    ensures { s.new ≡ show_nodes p.now n s.old }
+fn show_nodes(p: &Plan, s: &mut Cascade)
+    ensures { s.new ≡ show_nodes p.now (plan_in p.now).nodes s.old }
 {
-    if n == 0 {
-        return;
+    for at in (0..nodes(p) as usize).rev() {
+        let own = plan_tree::NODES + at * plan_tree::PER_NODE;
+        let x = s[cells::REQUEST + at];
+        show_port(
+            s,
+            cells::HIGH <= x,
+            p[own + plan_tree::NODE_HUB],
+            p[own + plan_tree::NODE_PORT],
+            cells::NORMAL <= x,
+        );
     }
-    let at = n as usize - 1;
-    let own = plan_tree::NODES + at * plan_tree::PER_NODE;
-    let x = s[cells::REQUEST + at];
-    show_port(
-        s,
-        cells::HIGH <= x,
-        p[own + plan_tree::NODE_HUB],
-        p[own + plan_tree::NODE_PORT],
-        cells::NORMAL <= x,
-    );
-    show_nodes(p, s, n - 1);
 }
 
 // Hubs n to 1: in its parent the port of each shows the classes that it shows itself. A hub's number is above its parent's.
@@ -91,36 +72,34 @@ fn show_hubs(p: &Plan, s: &mut Cascade, n: u32)
     requires { n ≤ most_hubs }
     ensures { s.new ≡ show_hubs p.now n s.old }
 {
-    if n == 0 {
-        return;
+    for hub in (0..n as usize).rev() {
+        let at = cells::HUBS + hub * cells::PER_HUB;
+        let own = plan_tree::HUBS + hub * plan_tree::PER_HUB;
+        let normal = ports::any_shown(s[at + cells::MASK]);
+        let high = ports::any_shown(s[at + cells::HIGH_MASK]);
+        show_port(
+            s,
+            false,
+            p[own + plan_tree::PARENT],
+            p[own + plan_tree::PLACE],
+            normal,
+        );
+        show_port(
+            s,
+            true,
+            p[own + plan_tree::PARENT],
+            p[own + plan_tree::PLACE],
+            high,
+        );
     }
-    let at = cells::HUBS + (n as usize - 1) * cells::PER_HUB;
-    let own = plan_tree::HUBS + (n as usize - 1) * plan_tree::PER_HUB;
-    let normal = ports::any_shown(s[at + cells::MASK]);
-    let high = ports::any_shown(s[at + cells::HIGH_MASK]);
-    show_port(
-        s,
-        false,
-        p[own + plan_tree::PARENT],
-        p[own + plan_tree::PLACE],
-        normal,
-    );
-    show_port(
-        s,
-        true,
-        p[own + plan_tree::PARENT],
-        p[own + plan_tree::PLACE],
-        high,
-    );
-    show_hubs(p, s, n - 1);
 }
 
 // The masks of what stands: where every standing request counts, as at a frame's start, they are right.
 pub fn build(p: &Plan, s: &mut Cascade)
     ensures { s.new ≡ build_masks p.now s.old }
 {
-    let h = hubs(p);
-    clear_masks(s, h);
-    show_nodes(p, s, nodes(p));
-    show_hubs(p, s, h);
+    let n = hubs(p);
+    clear_masks(s, n);
+    show_nodes(p, s);
+    show_hubs(p, s, n);
 }

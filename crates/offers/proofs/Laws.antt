@@ -11,8 +11,15 @@ use lib.Seq.{paste, paste-zero, paste-suc}
 use Rattle.rules.specs.Rows.{first_row}
 use Rattle.rules.proofs.Laws.Passes.{Which, which, yes', no'}
 use Rattle.writer.proofs.Writes.{paste_all}
+use Rattle.cells.specs.declared.Misfit.{Misfit}
+use Rattle.cells.specs.declared.Misfit.TheVariants.{Malformed, TooLong}
+use Rattle.cells.specs.Step.{misfit_number}
 use Rattle.cells.specs.Calls.{number_of}
 use Rattle.offers.specs.Offers.{Offer, offers_in, answer_to, answers_to, row1, row18, offers_row, offers_left}
+
+pub is_misfit : (m : Misfit) → misfit_number m ≡ 0 → ⊥
+is_misfit Malformed z = absurd (omega arith)
+is_misfit TooLong z = absurd (omega arith)
 
 -- offer i of a table
 abbrev pub offer_at : List ℕ → ℕ → Offer

@@ -1,18 +1,14 @@
 -- The whole plan by the scanner: the header's lines and the root's `(hub` at
 -- cursors, then the hub reader. It reads what `reading` of Reading reads;
 -- that is proved in proofs/.
-use Rattle.std.specs.Prelude.{ℕ, ◌+◌, ◌-◌, true, false, List, [], eqb, if◌then◌else◌}
+use Rattle.std.specs.Prelude.{ℕ, ◌+◌, ◌-◌, true, false, List, [], eqb, if◌then◌else◌, Option, Some, None}
 use Rattle.rules.specs.Plan.{longest_in}
 use Rattle.text.specs.declared.Cursor.{Cursor}
-use Rattle.plan.specs.declared.Answer.TheVariants.{Taken, Refused}
-use Rattle.header.specs.declared.Figure.{Figure}
-use Rattle.header.specs.declared.Figure.TheVariants.{Got, Not}
-use Rattle.header.specs.declared.Optional.{Optional}
-use Rattle.header.specs.declared.Optional.TheVariants.{Says, Absent}
+use Rattle.plan.specs.Answer.{Taken, Refused}
+use Rattle.header.specs.Figure.{Figure, Got, Not}
 use Rattle.header.specs.Lines.{figure_at, optional_at, root_at}
 use Rattle.plan_tree.specs.declared.Place.{Place}
-use Rattle.plan_tree.specs.declared.Part.{Part}
-use Rattle.plan_tree.specs.declared.Part.TheVariants.{Read, Stopped}
+use Rattle.plan_tree.specs.Part.{Part, Read, Stopped}
 use Rattle.plan.specs.Words.{frame_word, overhead_word, interrupt_word, framing_word, strict_word}
 use Rattle.plan_tree.specs.Tables.{no_table}
 use Rattle.plan.specs.Tables.{Figures, put_figures}
@@ -41,9 +37,9 @@ abbrev pub behind_figure : Figure → (ℕ → Cursor → reading.Read) → read
 behind_figure (Got x next) more = more x next
 behind_figure (Not line number) more = refused line number
 
-abbrev pub behind_optional : Optional → (ℕ → Cursor → reading.Read) → reading.Read → reading.Read
-behind_optional (Says x next) says absent = says x next
-behind_optional Absent says absent = absent
+abbrev pub behind_optional : Option (ℕ × Cursor) → (ℕ → Cursor → reading.Read) → reading.Read → reading.Read
+behind_optional (Some x) says absent = says x.0 x.1
+behind_optional None says absent = absent
 
 abbrev pub behind_root : Part → (Place → Answered) → Answered
 behind_root (Read x) more = more x

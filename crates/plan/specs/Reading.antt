@@ -7,8 +7,7 @@ use Rattle.text.specs.Form.{read_form}
 use Rattle.text.specs.declared.Cursor.{Cursor}
 use Rattle.plan_tree.specs.declared.Kind.{Kind}
 use Rattle.plan_tree.specs.declared.Kind.TheVariants.{Close, Node, Empty, Hub, Other}
-use Rattle.plan.specs.declared.Answer.{Answer}
-use Rattle.plan.specs.declared.Answer.TheVariants.{Taken, Refused}
+use Rattle.plan.specs.Answer.{Answer, Taken, Refused}
 use Rattle.plan_tree.specs.Kind.{kind_of, is_hub}
 use Rattle.plan.specs.Words.{frame_word, overhead_word, interrupt_word, framing_word, strict_word}
 use Rattle.plan_tree.specs.Tables.{no_table, put_empty, put_node, put_hub, put_ports, put_root}

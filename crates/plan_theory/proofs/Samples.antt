@@ -7,7 +7,7 @@ use Rattle.text.specs.Line.{before, lines}
 use Rattle.text.specs.Number as number
 use Rattle.text.specs.Word.{starts_with, is_word}
 use Rattle.text.specs.Form.{and_then, read_close, read_numbers, read_behind, read_form, read_spaced}
-use Rattle.plan.specs.declared.Answer.TheVariants.{Taken, Refused}
+use Rattle.plan.specs.Answer.{Taken, Refused}
 use Rattle.plan_tree.specs.Kind.{kind_of}
 use Rattle.plan_tree.specs.Tables.{put_empty, put_node, put_hub, put_ports, put_root}
 use Rattle.plan.specs.Tables.{Figures, put_figures}

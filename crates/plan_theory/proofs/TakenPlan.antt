@@ -1,12 +1,10 @@
 -- What later proofs need of any taken plan, as one record of facts: its tables are a drawn plan's, with the numbers that the answer tells.
 use Prim.Native.Nat.{ℕ}
-use mathlib.Core.Path.{◌≡◌, sym, ap, ◌∙◌, subst}
+use mathlib.Core.Path.{sym, ◌∙◌, subst}
 use mathlib.Core.List.{List}
-use Rattle.rules.specs.Plan as rules
-use Rattle.rules.specs.Drawn.{Drawn, Within}
 use Rattle.plan.specs.Reading.{reading}
 use Rattle.plan_theory.specs.Tree.{figures_of}
-use Rattle.plan_theory.specs.Taken.{TakenAs, OfTree, TakenPlan}
+use Rattle.plan_theory.specs.Taken.{TakenAs, TakenPlan}
 use Rattle.plan_theory.proofs.Tree.TakenDrawn.{taken_drawn}
 use Rattle.plan_theory.proofs.Tree.Taken.{taken_of}
 use Rattle.plan_theory.proofs.Tables.Drawn.{drawn, nodes_are, hubs_are, node_stands, node_only}

@@ -3,7 +3,7 @@ use Rattle.std.specs.Prelude.{ℕ, ◌+◌, ◌<◌, ◌^◌, ◌≡◌, true, L
 use Rattle.rules.specs.Plan as rules
 use Rattle.rules.specs.Drawn.{Drawn, Within}
 use Rattle.text.specs.Line.{Lines, lines}
-use Rattle.plan.specs.declared.Answer.TheVariants.{Taken, Refused}
+use Rattle.plan.specs.Answer.{Taken, Refused}
 use Rattle.plan.specs.Tables.{Figures, plan_of}
 use Rattle.plan_tree.specs.Tables.{hub_of_node, port_of_node}
 use Rattle.plan.specs.Reading.{reading}

@@ -4,15 +4,12 @@
 use Rattle.std.specs.Prelude.{ℕ, zero, suc, ◌+◌, ◌-◌, Bool, true, false, ◌||◌, List, [], ◌∷◌, eqb, leb, if◌then◌else◌}
 use Rattle.rules.specs.Plan.{most_hubs, most_ports, most_nodes, most_levels}
 use Rattle.text.specs.Line.{next_line}
-use Rattle.text.specs.Part.{part}
 use Rattle.text.specs.declared.Cursor.{Cursor}
 use Rattle.text.specs.declared.Next.{Next}
-use Rattle.text.specs.declared.Next.TheVariants.{Line, Unended, Done}
 use Rattle.plan_tree.specs.declared.Kind.{Kind}
 use Rattle.plan_tree.specs.declared.Kind.TheVariants.{Close, Node, Empty, Hub, Other}
 use Rattle.plan_tree.specs.declared.Place.{Place}
-use Rattle.plan_tree.specs.declared.Part.{Part}
-use Rattle.plan_tree.specs.declared.Part.TheVariants.{Read, Stopped}
+use Rattle.plan_tree.specs.Part.{Part, Read, Stopped, Found, Whole, Missing, found}
 use Rattle.plan_tree.specs.Kind.{kind_of}
 use Rattle.plan_tree.specs.Tables.{put_empty, put_node, put_hub, put_ports, put_root}
 
@@ -74,17 +71,18 @@ is_close Empty = false
 is_close Hub = false
 is_close Other = false
 
-module _ (text : List ℕ) where
-  abbrev pub on_kind : (Place → ℕ → ℕ → List ℕ → Answered) → (Place → List ℕ → Answered) → Kind → ℕ → Place → ℕ → ℕ → ℕ → List ℕ → Answered
-  on_kind inner more kind line x g q levels s =
-      if is_close kind then closing line x g q s
-      else behind_port more (port_by inner kind line x g q levels s)
+abbrev pub on_kind : (Place → ℕ → ℕ → List ℕ → Answered) → (Place → List ℕ → Answered) → Kind → ℕ → Place → ℕ → ℕ → ℕ → List ℕ → Answered
+on_kind inner more kind line x g q levels s =
+    if is_close kind then closing line x g q s
+    else behind_port more (port_by inner kind line x g q levels s)
 
+abbrev pub on_line : (Place → ℕ → ℕ → List ℕ → Answered) → (Place → List ℕ → Answered) → Found → Place → ℕ → ℕ → ℕ → List ℕ → Answered
+on_line inner more (Whole bytes number next) x g q levels s = on_kind inner more (kind_of bytes) number (moved next x) g q levels s
+on_line inner more (Missing line number) x g q levels s = stop line number s
+
+module _ (text : List ℕ) where
   abbrev pub on_next : (Place → ℕ → ℕ → List ℕ → Answered) → (Place → List ℕ → Answered) → Next → Place → ℕ → ℕ → ℕ → List ℕ → Answered
-  on_next inner more (Line start end number next) x g q levels s =
-      on_kind inner more (kind_of (part text start end)) number (moved next x) g q levels s
-  on_next inner more (Unended start end number) x g q levels s = stop number 1 s
-  on_next inner more (Done number) x g q levels s = stop number 1 s
+  on_next inner more next x g q levels s = on_line inner more (found text next) x g q levels s
 
   -- the ports of hub g behind port q, up to the line that closes it
   unfoldable pub hub_reader : ℕ → Place → ℕ → ℕ → ℕ → List ℕ → Answered

@@ -2,15 +2,18 @@
 #![tactic(auto)]
 
 ghost use Rattle.std.specs.Prelude.{◌≡◌, length};
-ghost use Rattle.text.specs.Part.{part};
+ghost use Rattle.text.specs.Line.{next_line};
 ghost use Rattle.plan_tree.specs.Kind.{kind_of};
+ghost use Rattle.plan_tree.specs.Part.{row_number, told_part, told_line, found};
 ghost use Rattle.plan_tree.specs.Readers.{root_reader};
+
+use text::{Cursor, Next};
 
 mod readers;
 mod stores;
 
 // What a line of a plan is, other than a figure's.
-#[derive(Drop)]
+#[derive(Clone, Copy, Debug, PartialEq, Eq)]
 pub enum Kind {
     Close,
     Node,
@@ -20,7 +23,7 @@ pub enum Kind {
 }
 
 // Where a reader is: the next line's place and number, and the nodes and hubs so far.
-#[derive(Drop)]
+#[derive(Clone, Copy, Debug, PartialEq, Eq)]
 pub struct Place {
     pub at: usize,
     pub number: usize,
@@ -28,11 +31,50 @@ pub struct Place {
     pub hubs: u32,
 }
 
-// A part of the plan was read up to a place, or a line is refused.
+// The rows of the table that refuse a plan, 1 to 4: a line is no form that is allowed there, a figure is out of its range, a limit of the
+// tree is passed, or there is no such framing.
+#[derive(Clone, Copy, Debug, PartialEq, Eq)]
+pub enum Row {
+    Form,
+    Range,
+    Tree,
+    Framing,
+}
+
+impl From<Row> for u32 {
+    ghost from_gives = { λ row n. n ≡ row_number row };
+
+    fn from(row: Row) -> u32 {
+        match row {
+            Row::Form => 1,
+            Row::Range => 2,
+            Row::Tree => 3,
+            Row::Framing => 4,
+        }
+    }
+}
+
+// A plan is refused: the line, and the first row of the table that applies to it.
+#[derive(Clone, Copy, Debug, PartialEq, Eq)]
+pub struct Refused {
+    pub line: usize,
+    pub row: Row,
+}
+
+impl Refused {
+    pub fn new(line: usize, row: Row) -> Self
+        ensures { result ≡ (record { line = line; row = row }) }
+    {
+        Refused { line, row }
+    }
+}
+
+// A line without its LF, its number, and where the next one starts.
 #[derive(Drop)]
-pub enum Part {
-    Read(Place),
-    Stopped { line: usize, number: u8 },
+pub struct Line<'a> {
+    pub bytes: &'a [u8],
+    pub number: usize,
+    pub next: Cursor,
 }
 
 // The tables of a plan: see specs/Tables.antt for what stands where. The cells before HUBS are the figures', which `plan` names.
@@ -70,28 +112,49 @@ pub const NODE_HUB: usize = 0;
 pub const NODE_PORT: usize = 1;
 
 // What a line is, other than a figure's.
-pub fn kind_of(text: &[u8], start: usize, end: usize) -> Kind
-    ensures { result ≡ kind_of (part text.now start end) }
+pub fn kind_of(line: &[u8]) -> Kind
+    ensures { result ≡ kind_of line.now }
 {
-    if text::line_is(text, start, end, b")") {
+    if line == b")".as_slice() {
         return Kind::Close;
     }
-    if text::line_is(text, start, end, b"(node)") {
+    if line == b"(node)".as_slice() {
         return Kind::Node;
     }
-    if text::line_is(text, start, end, b"(empty)") {
+    if line == b"(empty)".as_slice() {
         return Kind::Empty;
     }
-    if text::line_is(text, start, end, b"(hub") {
+    if line == b"(hub".as_slice() {
         return Kind::Hub;
     }
     Kind::Other
 }
 
+// The line at a cursor. One without its LF and the text's end are row 1.
+pub fn line_at(text: &[u8], c: Cursor) -> Result<Line<'_>, Refused>
+    ensures { told_line result ≡ found text.now (next_line text.now c) }
+{
+    match reader::line_at(text, c.at, c.number) {
+        Next::Line {
+            start,
+            end,
+            number,
+            next,
+        } => Ok(Line {
+            bytes: text::part(text, start, end),
+            number,
+            next,
+        }),
+        Next::Unended { number, .. } | Next::Done { number } => {
+            Err(Refused::new(number, Row::Form))
+        }
+    }
+}
+
 // The root hub from its ports on, at a place behind its `(hub`: it is hub 1, of level 1, and 4 levels may stand below it.
 // Each of its lines has a byte of the text, so the text's length is enough for the readers, which take one off for each line.
-pub fn root_reader(text: &[u8], s: &mut Plan, x: Place) -> Part
-    ensures value { result ≡ (root_reader text.now (length text.now) x s.old).part }
+pub fn root_reader(text: &[u8], s: &mut Plan, x: Place) -> Result<Place, Refused>
+    ensures value { told_part result ≡ (root_reader text.now (length text.now) x s.old).part }
     ensures s_after { s.new ≡ (root_reader text.now (length text.now) x s.old).tables }
 {
     s[HUBS + LEVEL] = 1;

@@ -1,5 +1,6 @@
 -- The search on a rotated mask: the port behind its trailing zeros, rotated
 -- back, is the lowest at or after the pointer, unless it has gone round.
+use Rattle.std.specs.Prelude.{Some, None}
 use mathlib.Core.Path.{◌≡◌, sym, ap, ap₂, ◌∙◌}
 use mathlib.Core.Bool.{Bool, true, false, ◌||◌, or_self, or-false}
 use Prim.Native.Nat.{ℕ, zero, suc, ◌+◌, ◌-◌, ◌*◌, ◌/◌, ◌%◌, ◌^◌, ◌≤◌, ◌<◌, max}
@@ -11,7 +12,6 @@ use lib.Dec.{eqb}
 use Rattle.ports.specs.Ports.{ports}
 use Rattle.ports.specs.Mask.{shows}
 use Rattle.ports.specs.Search.{lowest_from}
-use Rattle.ports.specs.declared.Found.TheVariants.{Port, Nothing}
 use Rattle.ports.proofs.Bits.{shows_first, shows-half, shows-shr, shl-shows-none, shows-or}
 use Rattle.ports.proofs.Coding.{shows_cut}
 use Rattle.ports.proofs.Laws.{right_lowest}
@@ -79,11 +79,11 @@ module _ (m n pointer first : ℕ) (e : first ≡ max pointer 1) (t : Rotated po
   none_before : (q : ℕ) → first ≤ q → q ≤ ports → q < count_trailing_zeros ports n + first → shows m q ≡ false
   none_before q a u h = place q false a u (zeros_none ports n (q - first) (omega arith))
 
-  pub rotated_back : count_trailing_zeros ports n + first ≤ ports → lowest_from (shows m) pointer ≡ Port (count_trailing_zeros ports n + first)
+  pub rotated_back : count_trailing_zeros ports n + first ≤ ports → lowest_from (shows m) pointer ≡ Some (count_trailing_zeros ports n + first)
   rotated_back h =
       let z = count_trailing_zeros ports n in
       let at : z + first - first ≡ z = omega arith in
-      right_lowest (shows m) pointer (Port (z + first))
+      right_lowest (shows m) pointer (Some (z + first))
       record {
         after = omega arith;
         positive = omega arith;
@@ -92,8 +92,8 @@ module _ (m n pointer first : ℕ) (e : first ≡ max pointer 1) (t : Rotated po
         least = λ q g a u. none_before q (omega arith) (omega arith) u;
       }
 
-  pub gone_round : ports < count_trailing_zeros ports n + first → lowest_from (shows m) pointer ≡ Nothing
-  gone_round h = right_lowest (shows m) pointer Nothing (λ q g a u. none_before q (omega arith) u (omega arith))
+  pub gone_round : ports < count_trailing_zeros ports n + first → lowest_from (shows m) pointer ≡ None
+  gone_round h = right_lowest (shows m) pointer None (λ q g a u. none_before q (omega arith) u (omega arith))
 
-pub past_the_last : (f : ℕ → Bool) (pointer : ℕ) → ports < pointer → lowest_from f pointer ≡ Nothing
-past_the_last f pointer h = right_lowest f pointer Nothing (λ q l a u. absurd (omega arith))
+pub past_the_last : (f : ℕ → Bool) (pointer : ℕ) → ports < pointer → lowest_from f pointer ≡ None
+past_the_last f pointer h = right_lowest f pointer None (λ q l a u. absurd (omega arith))

@@ -6,13 +6,6 @@ ghost use Rattle.ports.specs.Ports.{with_port, put_port, any_port};
 ghost use Rattle.ports.specs.Mask.{shows, mask_of};
 ghost use Rattle.ports.specs.Search.{lowest_from};
 
-// What a search finds. No port is an answer of its own, and no number stands for it.
-#[derive(Drop)]
-pub enum Found {
-    Port(u32),
-    Nothing,
-}
-
 // The mask with `port` shown as well where `shown` holds. A number that is no port changes nothing.
 pub fn with_port(mask: u32, port: u32, shown: bool) -> u32
     ensures { result ≡ mask_of (with_port (shows mask) port shown) }
@@ -43,12 +36,12 @@ pub fn any_shown(mask: u32) -> bool
 
 // The lowest-numbered port shown at or after `pointer`. The ports are rotated
 // so that the pointer's port is lowest, and the answer is rotated back.
-pub fn lowest(mask: u32, pointer: u32) -> Found
+pub fn lowest(mask: u32, pointer: u32) -> Option<u32>
     ensures { result ≡ lowest_from (shows mask) pointer }
 {
     // one past the last port, or beyond, nothing is rotated
     if 33 <= pointer {
-        return Found::Nothing;
+        return None;
     }
     if 1 <= pointer {
         let rotation = pointer - 1;
@@ -56,15 +49,11 @@ pub fn lowest(mask: u32, pointer: u32) -> Found
         let zeros = u32::trailing_zeros(rotated);
         // the ports below the pointer have gone round, behind the last one
         if zeros <= 32 - pointer {
-            return Found::Port(zeros + pointer);
+            return Some(zeros + pointer);
         }
-        return Found::Nothing;
+        return None;
     }
     // before the first port nothing has to be rotated
     let zeros = u32::trailing_zeros(mask);
-    if zeros < 32 {
-        Found::Port(zeros + 1)
-    } else {
-        Found::Nothing
-    }
+    if zeros < 32 { Some(zeros + 1) } else { None }
 }

@@ -4,7 +4,7 @@
 use mathlib.Core.Path.{◌≡◌, refl, sym, ap, ◌∙◌}
 use mathlib.Core.Bool.{Bool, true, false}
 use mathlib.Core.List.{List}
-use Prim.Native.Nat.{ℕ, zero, suc, ◌+◌, ◌<◌, ◌^◌}
+use Prim.Native.Nat.{ℕ, zero, suc, ◌+◌}
 use native.Mathlib.Omega.{arith}
 use lib.ListN.{length}
 use Rattle.text.specs.Part.{part}
@@ -16,10 +16,6 @@ use Rattle.text.proofs.Parts.{part_length}
 use Rattle.text.proofs.Lines.{scanned_line, scanned_unended, scanned_done}
 use Rattle.reader.specs.declared.Found.{Found}
 use Rattle.reader.specs.LineReader.{found, found_at, answer_of}
-
--- a part from a place on ends before 2 ^ 64, as the text and the place do
-pub part-fits : (text : List ℕ) (at end : ℕ) → at < 2 ^ 64 → length text < 2 ^ 64 → at + length (part text at end) < 2 ^ 64
-part-fits text at end h l = omega (arith, part_length text at end)
 
 more_answer : (at n number : ℕ) (next : Cursor) → answer_of at (suc n) number false next ≡ Unended at (at + suc n) number
 unfolding answer_of

@@ -1,7 +1,5 @@
 -- What the line reader hands out, and where it is left, by what the scanner of `text` answers at its place.
-use Rattle.std.specs.Prelude.{ℕ, zero, suc, ◌+◌, min, ◌≡◌, Bool, true, false, List, length}
-use Rattle.std.specs.Borrow.{Bor}
-use Rattle.text.specs.Part.{part}
+use Rattle.std.specs.Prelude.{ℕ, zero, suc, ◌+◌, Bool, true, false, List}
 use Rattle.text.specs.Line.{next_number, next_line}
 use Rattle.text.specs.declared.Cursor.{Cursor}
 use Rattle.text.specs.declared.Next.{Next}
@@ -19,11 +17,6 @@ found c (Done number) = record { end = c.at; ended = false; at = c.at; number = 
 -- the same for a text, a place in it and the number of the line that starts there
 abbrev pub found_at : List ℕ → ℕ → ℕ → Found
 found_at text at number = found (record { at = at; number = number }) (next_line text (record { at = at; number = number }))
-
--- the bytes of a lent text from one place to another, as they stand in it: the
--- same memory, nothing copied. What lies behind the text's end is not there
-abbrev pub PartOf : Bor (List ℕ) → ℕ → ℕ → Bor (List ℕ) → Type 0
-PartOf text start end r = (r.now ≡ part text.now start end) × (r.ref_ptr.0 ≡ text.ref_ptr.0) × (r.ref_ptr.1 ≡ min start (length text.now) + text.ref_ptr.1)
 
 -- what lies ahead of a reader
 abbrev pub ahead : Reader → Found

@@ -5,8 +5,9 @@
 #![tactic(auto)]
 
 ghost use Rattle.std.specs.Prelude.{◌≡◌, ◌+◌, ◌<◌, ◌^◌};
+ghost use Rattle.text.specs.Part.{PartOf};
 ghost use Rattle.text.specs.Line.{next_line};
-ghost use Rattle.reader.specs.LineReader.{found_at, PartOf, ahead, moved_on, answer_of};
+ghost use Rattle.reader.specs.LineReader.{found_at, ahead, moved_on, answer_of};
 
 use text::{Cursor, Next};
 
@@ -19,6 +20,7 @@ pub struct Reader<'a> {
 }
 
 // A line without its LF, its number, and whether its LF was there. Where nothing is left there is neither a byte nor an LF.
+// The flag is no Option: the bytes are there with and without the LF, and `all_lines` speaks of both.
 #[derive(Drop)]
 pub struct Line<'a> {
     pub bytes: &'a [u8],
@@ -71,45 +73,29 @@ fn scan(text: &[u8], at: usize, number: usize) -> Found
     }
 }
 
-// The part of a text from one place to another, as it stands there.
-fn piece(text: &[u8], start: usize, end: usize) -> &[u8]
-    ensures { PartOf text.entry start end result }
-{
-    let n = text.len();
-    if n <= start {
-        return &text[n..];
+impl<'a> Reader<'a> {
+    // A reader of a text from a place on, where the line of this number starts.
+    pub fn new(text: &'a [u8], at: usize, number: usize) -> Self
+        ensures { (result.text ≡ text.entry) × (result.at ≡ at) × (result.number ≡ number) }
+    {
+        Reader { text, at, number }
     }
-    if end <= start {
-        return &text[start..start];
-    }
-    if n <= end {
-        return &text[start..];
-    }
-    &text[start..end]
-}
 
-// A reader of a text from a place on, where the line of this number starts.
-pub fn new<'a>(text: &'a [u8], at: usize, number: usize) -> Reader<'a>
-    ensures { (result.text ≡ text.entry) × (result.at ≡ at) × (result.number ≡ number) }
-{
-    Reader { text, at, number }
-}
-
-// The next line. The reader is left behind it.
-pub fn next<'s, 'a>(r: &'s mut Reader<'a>) -> Line<'a>
-    ensures { (PartOf r.old.text r.old.at (ahead r.old).end result.bytes) × (result.number ≡ r.old.number) × (result.ended ≡ (ahead r.old).ended) × (r.new ≡ moved_on r.old) }
-{
-    let text = r.text;
-    let at = r.at;
-    let number = r.number;
-    let f = scan(text, at, number);
-    let bytes = piece(text, at, f.end);
-    r.at = f.at;
-    r.number = f.number;
-    Line {
-        bytes,
-        number,
-        ended: f.ended,
+    // The next line. The reader is left behind it.
+    pub fn next(&mut self) -> Line<'a>
+        ensures { (PartOf self.old.text self.old.at (ahead self.old).end result.bytes) × (result.number ≡ self.old.number) × (result.ended ≡ (ahead self.old).ended) × (self.new ≡ moved_on self.old) }
+    {
+        let at = self.at;
+        let number = self.number;
+        let found = scan(self.text, at, number);
+        let bytes = text::part(self.text, at, found.end);
+        self.at = found.at;
+        self.number = found.number;
+        Line {
+            bytes,
+            number,
+            ended: found.ended,
+        }
     }
 }
 
@@ -144,8 +130,8 @@ fn told(at: usize, length: usize, number: usize, ended: bool, place: usize, line
 pub fn line_at(text: &[u8], at: usize, number: usize) -> Next
     ensures { result ≡ next_line text.now (record { at = at; number = number }) }
 {
-    let mut r = new(text, at, number);
-    let line = next(&mut r);
+    let mut r = Reader::new(text, at, number);
+    let line = r.next();
     told(
         at,
         line.bytes.len(),

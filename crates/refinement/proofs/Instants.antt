@@ -7,7 +7,7 @@ use native.Mathlib.Omega.{arith}
 use lib.Dec.{ltb, leb, eqb}
 use lib.ListN.{get_or}
 use borrow.Author.Tests.{le-leb, lt-leb, leb-true, ltb-true, ltb-false, ne_eqb}
-use Rattle.std.specs.Prelude.{if◌then◌else◌}
+use Rattle.std.specs.Prelude.{if◌then◌else◌, Some, None}
 use Rattle.rules.specs.Choice.{any, sum}
 use Rattle.rules.specs.Plan.{Plan}
 use Rattle.rules.specs.Drawn.{Drawn, Within}
@@ -25,8 +25,7 @@ use Rattle.ports.proofs.Summaries.{Sums, any_mask, sums_any}
 use Rattle.cells.specs.Layout.{standing_cell, busy_cell, clock_cell, end_cell, request_cell, request_of, time_at}
 use Rattle.cells.specs.Decode.{plan_in, core_of, line_of}
 use Rattle.cells.specs.Masks.{stands}
-use Rattle.cells.specs.declared.Due.TheVariants.{At, Never}
-use Rattle.cells.specs.declared.Sought.TheVariants.{Class, Nothing}
+use Rattle.cells.specs.Sought.{Class, Nothing}
 use Rattle.cells.specs.Instants.{root_shows, sought_by, resting_due, due_by, due_in, sought_in}
 use Rattle.refinement.specs.Kept.{Ready, Kept, counts_of, seen_at}
 
@@ -184,7 +183,7 @@ module _ (P : List ℕ) (R : Ready P) (s : List ℕ) (K : Kept (plan_in P) s) wh
       next_frame = (rules.frame_of (plan_in P) clock + 1) * (plan_in P).frame
 
       go : (a z h : Bool) → (a ≡ false → not z ≡ h)
-          → due_in (if a then At clock else (if z then Never else At next_frame))
+          → due_in (if a then Some clock else (if z then None else Some next_frame))
           ≡ (if a then rules.at clock else (if h then rules.at next_frame else rules.never))
       go true z h e = refl
       go false true h e = rw (← (e refl))
@@ -194,7 +193,7 @@ module _ (P : List ℕ) (R : Ready P) (s : List ℕ) (K : Kept (plan_in P) s) wh
   unfolding due_by rules.due
   due_tied = go (eqb (get_or s busy_cell 0) 0) ∙ ap (λ (l : rules.Line). rules.due_on l (plan_in P) (core_of (plan_in P) s)) (sym (line_in (plan_in P) s))
     where
-      go : (b : Bool) → due_in (if b then resting_due (plan_in P) s else At (time_at s end_cell))
+      go : (b : Bool) → due_in (if b then resting_due (plan_in P) s else Some (time_at s end_cell))
           ≡ rules.due_on (if b then rules.resting else rules.busy (time_at s end_cell)) (plan_in P) (core_of (plan_in P) s)
       go true = rest_tied
       go false = refl

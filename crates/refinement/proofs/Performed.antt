@@ -1,4 +1,5 @@
 -- Each of the six calls over the cells gives the answer of `rules`, and leaves cells that are its hub.
+use Rattle.std.specs.Prelude.{Option, Some, None}
 use Prim.Native.Nat.{ℕ, ◌+◌, ◌≤◌, ◌<◌}
 use mathlib.Core.Path.{◌≡◌, refl, sym, ap, ap₂, subst, subst₂, ◌∙◌}
 use mathlib.Core.Bool.{Bool, true, false}
@@ -26,11 +27,9 @@ use Rattle.rules.proofs.Core.Sound.{Sound}
 use Rattle.rules.proofs.Flat.Turns.{Counting, node_counts}
 use Rattle.rules.proofs.Core.AlwaysSound.{Good, instant_sound, turn_counts}
 use Rattle.rules.proofs.Control.FollowsFlat.{control_follows}
-use Rattle.cells.specs.declared.Due.{Due}
-use Rattle.cells.specs.declared.Due.TheVariants.{At, Never}
-use Rattle.cells.specs.declared.Sought.{Sought}
-use Rattle.cells.specs.declared.Sought.TheVariants as seek
-use Rattle.cells.specs.declared.Step.TheVariants.{Rest}
+use Rattle.cells.specs.Sought.{Sought}
+use Rattle.cells.specs.Sought as seek
+use Rattle.cells.specs.Step.{class_number, Rest}
 use Rattle.cells.specs.Layout.{request_cell, force_cell, class_of, share_of, request_of, request_code}
 use Rattle.cells.specs.Decode.{plan_in, core_of, control_of, hub_of}
 use Rattle.cells.specs.Masks.{put_request, grant_node}
@@ -38,7 +37,7 @@ use Rattle.cells.specs.Waits.{record_since}
 use Rattle.cells.specs.Frames.{advance_by}
 use Rattle.cells.specs.Instants.{due_by, due_in, sought_by, sought_in}
 use Rattle.cells.specs.Turns as turns
-use Rattle.cells.specs.Calls.{row12_by, rows_by, number_of, row_by, put_up_code, change_by, event_by, bits_at, busy_until, class_number, class_numbered, grant_by, handled_by, Stepped, step_due, step_by, step_answer, step_wait, Performed, event_left, perform_by}
+use Rattle.cells.specs.Calls.{row12_by, rows_by, number_of, row_by, put_up_code, change_by, event_by, bits_at, busy_until, class_numbered, grant_by, handled_by, Stepped, step_due, step_by, step_answer, step_wait, Performed, event_left, perform_by}
 use Rattle.refinement.specs.Kept.{Ready, Kept, counts_of}
 use Rattle.refinement.proofs.Changed.{within_node, kept_but, kept_right}
 use Rattle.refinement.proofs.Requested.{Left, own_field, request_left}
@@ -313,15 +312,15 @@ module _ (P : List ℕ) (R : Ready P) (s : List ℕ) (K : Kept (plan_in P) s)
           (counts_in c (advance (plan_in P) d (core_of (plan_in P) s)))
           (turn_counts (plan_in P) R.drawn.figures (control (plan_in P)) (control_follows (plan_in P) R.drawn) (hub_of (plan_in P) s) G d c q))
 
-  due_step : (t : ℕ) (x : Due) → due_by (plan_in P) s ≡ x
+  due_step : (t : ℕ) (x : Option ℕ) → due_by (plan_in P) s ≡ x
       → Agrees (plan_in P) (stepped (step_due P x t s))
       (step_at (plan_in P) (control (plan_in P)) (due_in x) t (hub_of (plan_in P) s))
   unfolding step_due step_answer
-  due_step t Never e = record { answer = refl; left = unchanged P R s K }
-  due_step t (At d) e = go (which (ltb d t))
+  due_step t None e = record { answer = refl; left = unchanged P R s K }
+  due_step t (Some d) e = go (which (ltb d t))
     where
       go : Which (ltb d t)
-          → Agrees (plan_in P) (stepped (step_due P (At d) t s))
+          → Agrees (plan_in P) (stepped (step_due P (Some d) t s))
           (step_at (plan_in P) (control (plan_in P)) (rules.at d) t (hub_of (plan_in P) s))
       go (yes' l) = rw l (instant_tied d (sym (due_tied P R s K) ∙ ap due_in e))
       go (no' l) = rw l (record { answer = refl; left = unchanged P R s K })

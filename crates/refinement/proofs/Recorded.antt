@@ -11,7 +11,7 @@ use mathlib.Core.Bool.{Bool, true, false}
 use mathlib.Core.List.{List}
 use native.Mathlib.Omega.{arith}
 use lib.Dec.{eqb, ltb}
-use Rattle.std.specs.Prelude.{if◌then◌else◌}
+use Rattle.std.specs.Prelude.{if◌then◌else◌, Option, Some, None}
 use Rattle.rules.specs.Plan.{Plan}
 use Rattle.rules.specs.Call.{Class, Call, ask, off, reserve, until, step, time, Answer, taken}
 use Rattle.rules.specs.Core.{Core, advance}
@@ -23,10 +23,8 @@ use Rattle.rules.proofs.Laws.Passes.{Which, which, yes', no'}
 use Rattle.rules.proofs.Core.Acceptance.{taken_acceptable}
 use Rattle.rules.proofs.Core.AlwaysSound.{Good}
 use Rattle.rules.proofs.Control.FollowsFlat.{control_follows}
-use Rattle.cells.specs.declared.Due.{Due}
-use Rattle.cells.specs.declared.Due.TheVariants.{At, Never}
-use Rattle.cells.specs.declared.Sought.{Sought}
-use Rattle.cells.specs.declared.Sought.TheVariants as seek
+use Rattle.cells.specs.Sought.{Sought}
+use Rattle.cells.specs.Sought as seek
 use Rattle.cells.specs.Decode.{plan_in, is_node, core_of, control_of, hub_of}
 use Rattle.cells.specs.Waits.{since_at, times_of}
 use Rattle.cells.specs.Frames.{advance_by}
@@ -106,12 +104,12 @@ module _ (P : List ℕ) (R : Ready P) (s : List ℕ) (K : Kept (plan_in P) s) wh
               ∙ come_tied P s K.size d;
         }
 
-    due_timed : (x : Due) → Tells (plan_in P) (step t) (step_answer (step_due P x t s).answer) now → Timed (step t) (stepped (step_due P x t s))
+    due_timed : (x : Option ℕ) → Tells (plan_in P) (step t) (step_answer (step_due P x t s).answer) now → Timed (step t) (stepped (step_due P x t s))
     unfolding step_due step_answer step_wait
-    due_timed Never told = record { wait = refl; times = refl }
-    due_timed (At d) told = go (which (ltb d t))
+    due_timed None told = record { wait = refl; times = refl }
+    due_timed (Some d) told = go (which (ltb d t))
       where
-        go : Which (ltb d t) → Timed (step t) (stepped (step_due P (At d) t s))
+        go : Which (ltb d t) → Timed (step t) (stepped (step_due P (Some d) t s))
         go (yes' l) = rw l (handled_timed d (sought_by (advance_by P d s)) (rw l at told))
         go (no' l) = rw l (record { wait = refl; times = refl })
 

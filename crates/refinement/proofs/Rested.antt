@@ -14,7 +14,7 @@ use Rattle.rules.specs.Control.{rested_by}
 use Rattle.cells.specs.Layout.{cells, two_32, time_at, clock_cell, end_cell, busy_cell, holder_cell, class_cell, standing_cell, node_cell, mask_cell, pointer_cell}
 use Rattle.cells.specs.Decode.{plan_in, line_of, core_of, control_of}
 use Rattle.cells.specs.Calls.{Stepped, rest_by, resting}
-use Rattle.cells.specs.declared.Step.TheVariants.{Rest}
+use Rattle.cells.specs.Step.{Rest}
 use Rattle.refinement.specs.Kept.{Ready, Kept}
 use Rattle.refinement.proofs.Walked.Pointers.{holder_stored, control_kept}
 use Rattle.refinement.proofs.Walked.Keeping.{with_line, core_but_line, kept_by}

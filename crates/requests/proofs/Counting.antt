@@ -1,16 +1,14 @@
--- Whether a request counts, one law a way through the tests.
-use Prim.Native.Nat.{ℕ, ◌/◌, ◌≤◌, ◌<◌}
+-- The class that a request's cell stands in, one law a way through the tests.
+use Prim.Native.Nat.{ℕ, ◌≤◌, ◌<◌}
 use mathlib.Core.Path.{◌≡◌}
 use mathlib.Core.Bool.{Bool, true, false}
 use native.Mathlib.Omega.{arith}
 use lib.Dec.{ltb}
 use borrow.Author.Tests.{lt-ltb, le-ltb}
 use Rattle.rules.proofs.Laws.Passes.{Which, which, yes', no'}
-use Rattle.cells.specs.Layout.{half}
-use Rattle.cells.specs.Masks.{stands_in, counts_by}
+use Rattle.cells.specs.Masks.{stands_in}
 
 module _ (x : ℕ) where
-  -- the class that a request's cell stands in
   pub none-stands : (is_high : Bool) → x < 65536 → stands_in is_high x ≡ false
   none-stands true h = simp (lt-ltb x 65536 h)
   none-stands false h = simp (lt-ltb x 65536 h)
@@ -30,20 +28,3 @@ module _ (x : ℕ) where
 
   pub none_normal : 131072 ≤ x → stands_in false x ≡ false
   none_normal h = simp (le-ltb x 65536 (omega arith), le-ltb x 131072 h)
-
-module _ (high : Bool) (x granted force : ℕ) where
-  pub not_high : high ≡ true → x < 131072 → counts_by high x granted force ≡ false
-  not_high e h = rw (e, none_high x h)
-
-  pub is_high_lem : high ≡ true → 131072 ≤ x → ltb granted (force / half) ≡ counts_by high x granted force
-  is_high_lem e h = rw (e, high_stands x h)
-
-  pub no_request : high ≡ false → x < 65536 → counts_by high x granted force ≡ false
-  no_request e h = rw e (none-stands x false h)
-
-  pub is_normal : high ≡ false → 65536 ≤ x → ltb x 131072 ≡ counts_by high x granted force
-  is_normal e h = rw e (go (which (ltb x 131072)))
-    where
-      go : Which (ltb x 131072) → ltb x 131072 ≡ counts_by false x granted force
-      go (yes' l) = simp (le-ltb x 65536 h, l)
-      go (no' l) = simp (le-ltb x 65536 h, l)

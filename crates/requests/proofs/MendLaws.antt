@@ -2,9 +2,9 @@
 use mathlib.Core.Path.{◌≡◌, refl, sym, ap₂, ◌∙◌, subst}
 use mathlib.Core.Bool.{Bool, true, false, not, ◌&&◌, ◌||◌, beq, true≢false}
 use mathlib.Core.List.{List}
-use Prim.Native.Nat.{ℕ, zero, suc, ◌-◌, ◌≤◌, ◌<◌}
+use Prim.Native.Nat.{ℕ, zero, suc, ◌-◌, ◌≤◌}
 use native.Mathlib.Omega.{arith}
-use borrow.Author.Tests.{lt-ltb, le-ltb}
+use borrow.Author.Tests.{le-ltb}
 use lib.ListN.{get_or, set}
 use lib.Dec.{eqb}
 use Rattle.ports.specs.Ports.{ports, put_port, any_port}
@@ -15,6 +15,7 @@ use Rattle.rules.proofs.Laws.Passes.{Which, which, yes', no'}
 use Rattle.plan_tree.specs.Tables as plan
 use Rattle.cells.specs.Layout.{mask_cell}
 use Rattle.cells.specs.Masks.{alike, mend, mask_with}
+use Rattle.cells.proofs.Within.{no_hub}
 
 -- a port put hides none, and one taken off shows none
 put_hides_none : (f : ℕ → Bool) (q r : ℕ) → put_port f q true r ≡ false → f r ≡ false
@@ -68,15 +69,10 @@ module _ (P : List ℕ) (is_high : Bool) where
   none_left zero g q b s e = refl
   none_left (suc n) g q b s e = absurd (omega arith)
 
-  pub no_hub : (levels g q : ℕ) (b : Bool) (s : List ℕ) → g < 1 → s ≡ mend P is_high levels g q b s
+  pub beyond_hubs : (levels g q : ℕ) (b : Bool) (s : List ℕ) → ¬ ((1 ≤ g) × (g ≤ most_hubs)) → s ≡ mend P is_high levels g q b s
   unfolding mend
-  no_hub zero g q b s l = refl
-  no_hub (suc n) g q b s l = simp (lt-ltb g 1 l)
-
-  pub past_hubs : (levels g q : ℕ) (b : Bool) (s : List ℕ) → most_hubs < g → s ≡ mend P is_high levels g q b s
-  unfolding mend
-  past_hubs zero g q b s l = refl
-  past_hubs (suc n) g q b s l = simp (le-ltb g 1 (omega arith), lt-ltb most_hubs g l)
+  beyond_hubs zero g q b s other = refl
+  beyond_hubs (suc n) g q b s other = no_hub g _ s other
 
   -- hub g's mask stands at `at`, and becomes `mask`
   module _ (g q : ℕ) (b : Bool) (s : List ℕ) (at mask : ℕ) (low : 1 ≤ g) (up : g ≤ most_hubs)

@@ -4,23 +4,16 @@ use mathlib.Core.Bool.{Bool, true, false, ◌||◌}
 use mathlib.Core.List.{List}
 use mathlib.Core.Logic.{◌⊎◌, ⊎_elim}
 use Prim.Native.Nat.{ℕ, ◌≤◌, ◌<◌}
-use native.Mathlib.Omega.{arith}
-use borrow.Author.Tests.{lt-ltb, le-ltb}
+use borrow.Author.Tests.{le-ltb}
 use lib.ListN.{get_or, set}
 use Rattle.std.specs.Prelude.{if◌then◌else◌}
 use Rattle.rules.specs.Plan.{most_nodes, most_levels}
 use Rattle.rules.proofs.Laws.Passes.{or_left, or_right, or_both}
 use Rattle.plan_tree.specs.Tables.{hub_of_node, port_of_node}
-use Rattle.cells.specs.Layout.{standing_cell, request_cell, force_cell, granted_cell, if_node}
+use Rattle.cells.specs.Layout.{standing_cell, request_cell, force_cell, granted_cell}
 use Rattle.requests.proofs.Counting.{none-stands, normal_stands, none_high, high_stands, none_normal}
 use Rattle.cells.specs.Masks.{stands_in, counts_by, mend, mend_bit, mend_class, standing_after, put_request, granted_more, grant_node}
-
-module _ (k : ℕ) (a b : List ℕ) where
-  below_nodes : k < 1 → b ≡ if_node k a b
-  below_nodes l = simp (lt-ltb k 1 l)
-
-  past_nodes : most_nodes < k → b ≡ if_node k a b
-  past_nodes l = simp (le-ltb k 1 (omega arith), lt-ltb most_nodes k l)
+use Rattle.cells.proofs.Within.{no_node}
 
 -- b is what node k's cells say, and s₁ what the class's climb leaves
 module _ (P : List ℕ) (is_high : Bool) (k x : ℕ) (s : List ℕ) where
@@ -85,13 +78,9 @@ module _ (P : List ℕ) (k old x : ℕ) (s : List ℕ) where
 
 module _ (P : List ℕ) (k : ℕ) (s : List ℕ) where
   module _ (x : ℕ) where
-    pub request_below : k < 1 → s ≡ put_request P k x s
+    pub request_beyond : ¬ ((1 ≤ k) × (k ≤ most_nodes)) → s ≡ put_request P k x s
     unfolding put_request
-    request_below l = below_nodes k _ s l
-
-    pub request_past : most_nodes < k → s ≡ put_request P k x s
-    unfolding put_request
-    request_past l = past_nodes k _ s l
+    request_beyond other = no_node k _ s other
 
     pub requested : 1 ≤ k → k ≤ most_nodes → (n : ℕ) (s₁ : List ℕ)
         → n ≡ standing_after (get_or s standing_cell 0) (get_or s (request_cell k) 0) x
@@ -101,13 +90,9 @@ module _ (P : List ℕ) (k : ℕ) (s : List ℕ) where
     requested l u n s₁ e f = f ∙ simp (le-ltb k 1 l, le-ltb most_nodes k u, e)
 
   module _ (is_high : Bool) where
-    pub grant_below : k < 1 → s ≡ grant_node P is_high k s
+    pub grant_beyond : ¬ ((1 ≤ k) × (k ≤ most_nodes)) → s ≡ grant_node P is_high k s
     unfolding grant_node
-    grant_below l = below_nodes k _ s l
-
-    pub grant_past : most_nodes < k → s ≡ grant_node P is_high k s
-    unfolding grant_node
-    grant_past l = past_nodes k _ s l
+    grant_beyond other = no_node k _ s other
 
     pub granted : 1 ≤ k → k ≤ most_nodes → (n : ℕ) (s₁ : List ℕ)
         → n ≡ granted_more is_high (get_or s (granted_cell k) 0)

@@ -7,11 +7,23 @@ use Rattle.rules.specs.Rows.{Row, Verdict, accept, refuse, first_row}
 use Rattle.rules.proofs.Core.CallCases.{Clear}
 use Rattle.rules.proofs.Core.RefusalNumbers.{All, first-has}
 use Rattle.rules.proofs.Laws.Passes.{Which, which, yes', no'}
+use Rattle.cells.specs.declared.Refusal.{Refusal}
+use Rattle.cells.specs.declared.Refusal.TheVariants.{OutOfTime, StillDue, NoNode, TooMany, Outside, Unreserved, Overfull}
+use Rattle.cells.specs.Step.{refusal_number}
 use Rattle.cells.specs.Calls.{number_of}
 
 -- 0, or the number of the first row that applies
 abbrev pub row_of : List Row → ℕ
 row_of xs = number_of (first_row xs)
+
+pub is_refused : (r : Refusal) → refusal_number r ≡ 0 → ⊥
+is_refused OutOfTime z = absurd (omega arith)
+is_refused StillDue z = absurd (omega arith)
+is_refused NoNode z = absurd (omega arith)
+is_refused TooMany z = absurd (omega arith)
+is_refused Outside z = absurd (omega arith)
+is_refused Unreserved z = absurd (omega arith)
+is_refused Overfull z = absurd (omega arith)
 
 -- a row of the first list applies
 pub stops : (xs ys : List Row) → (row_of xs ≡ 0 → ⊥) → row_of xs ≡ row_of (xs ++ ys)

@@ -1,4 +1,4 @@
-// "Where each no is said", of all calls but a reserve: 0, or the number of the first row that applies.
+// "Where each no is said", of all calls but a reserve: the first row that applies, if one does.
 // No public function has a `requires`: each says its answer for every content of both tables.
 #![tactic(auto)]
 
@@ -9,31 +9,29 @@ ghost use Rattle.rules.specs.Rows.{last_time, row13, row15, row16};
 ghost use Rattle.cells.specs.Layout.{time_at, clock_cell, class_of, force_cell, latest_cell};
 ghost use Rattle.cells.specs.Decode.{plan_in, core_of};
 ghost use Rattle.cells.specs.Frames.{new_frame};
+ghost use Rattle.cells.specs.Step.{number};
 ghost use Rattle.cells.specs.Calls.{row_by};
 
-use cells::{Cascade, Due};
+use cells::{Cascade, Refusal};
 use plan_tree::Plan;
 
 // 11: t above 10^15, or before the clock.
 pub fn out_of_time(s: &Cascade, t: u64) -> bool
     ensures { result ≡ (ltb last_time t || ltb t (time_at s.now clock_cell)) }
 {
-    if 1000000000000000 < t {
-        return true;
-    }
-    t < requests::clock(s)
+    !(requests::clock(s)..=1000000000000000).contains(&t)
 }
 
 // 11, then 12: an instant strictly before t is due.
-pub fn time_row(p: &Plan, s: &Cascade, t: u64) -> u32
-    ensures { result ≡ row_by p.now (until t) s.now }
+pub fn time_row(p: &Plan, s: &Cascade, t: u64) -> Result<(), Refusal>
+    ensures { number result ≡ row_by p.now (until t) s.now }
 {
     if out_of_time(s, t) {
-        return 11;
+        return Err(Refusal::OutOfTime);
     }
     match instants::due_before(p, s, t) {
-        Due::At(_) => 12,
-        Due::Never => 0,
+        Some(_) => Err(Refusal::StillDue),
+        None => Ok(()),
     }
 }
 
@@ -41,34 +39,25 @@ pub fn time_row(p: &Plan, s: &Cascade, t: u64) -> u32
 pub fn no_node(p: &Plan, k: u64) -> bool
     ensures { result ≡ (row13 (plan_in p.now) k).applies }
 {
-    if k == 0 {
-        return true;
-    }
-    (masks::nodes(p) as u64) < k
+    !(1..=masks::nodes(p) as u64).contains(&k)
 }
 
 // 11, 12, then 13.
-pub fn node_row(p: &Plan, s: &Cascade, t: u64, k: u64) -> u32
-    ensures { result ≡ row_by p.now (off t k) s.now }
+pub fn node_row(p: &Plan, s: &Cascade, t: u64, k: u64) -> Result<(), Refusal>
+    ensures { number result ≡ row_by p.now (off t k) s.now }
 {
-    let row = time_row(p, s, t);
-    if row != 0 {
-        return row;
-    }
+    time_row(p, s, t)?;
     if no_node(p, k) {
-        return 13;
+        return Err(Refusal::NoNode);
     }
-    0
+    Ok(())
 }
 
 // 15: b outside 512 to the plan's longest packet.
 pub fn outside(p: &Plan, b: u64) -> bool
     ensures { result ≡ (row15 (plan_in p.now) b).applies }
 {
-    if b < 512 {
-        return true;
-    }
-    header::longest(p[plan::FRAMING]) < b
+    !(512..=header::longest(p[plan::FRAMING])).contains(&b)
 }
 
 // The cell of node k's reservation in force at t.
@@ -88,29 +77,33 @@ fn unreserved(p: &Plan, s: &Cascade, high: bool, t: u64, k: u32, b: u64) -> bool
     requires { Within (plan_in p.now).nodes k }
     ensures { result ≡ (row16 (plan_in p.now) (core_of (plan_in p.now) s.now) (class_of high) t k b).applies }
 {
-    if high {
-        let share = share_at(p, s, t, k);
-        if share < cells::HALF {
-            return p[plan::STRICT] != 0;
-        }
-        return ((share % cells::HALF) as u64) < b;
+    if !high {
+        return false;
     }
-    false
+    let share = share_at(p, s, t, k);
+    if share < cells::HALF {
+        return p[plan::STRICT] != 0;
+    }
+    ((share % cells::HALF) as u64) < b
 }
 
 // 11 to 16, of a normal or high request.
-pub fn ask_row(p: &Plan, s: &Cascade, high: bool, t: u64, k: u64, b: u64) -> u32
-    ensures { result ≡ row_by p.now (ask (class_of high) t k b) s.now }
+pub fn ask_row(
+    p: &Plan,
+    s: &Cascade,
+    high: bool,
+    t: u64,
+    k: u64,
+    b: u64,
+) -> Result<(), Refusal>
+    ensures { number result ≡ row_by p.now (ask (class_of high) t k b) s.now }
 {
-    let row = node_row(p, s, t, k);
-    if row != 0 {
-        return row;
-    }
+    node_row(p, s, t, k)?;
     if outside(p, b) {
-        return 15;
+        return Err(Refusal::Outside);
     }
     if unreserved(p, s, high, t, k as u32, b) {
-        return 16;
+        return Err(Refusal::Unreserved);
     }
-    0
+    Ok(())
 }

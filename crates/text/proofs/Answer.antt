@@ -1,41 +1,75 @@
--- What `number_at` answers, by the run of digits that stands at the place: none, a zero alone, a
--- zero with a digit behind it, or another digit and then at most 15 more. Assumes nothing.
+-- What `number_at` answers, by the run of digits at the front: none, more than 16, a zero with a digit behind it, or a number.
+-- Assumes nothing.
 use mathlib.Core.Path.{◌≡◌, refl}
-use mathlib.Core.Bool.{Bool, true, false, cond}
+use mathlib.Core.Bool.{true, false, not}
 use mathlib.Core.List.{List, [], ◌∷◌}
-use Prim.Native.Nat.{ℕ, suc, ◌+◌, ◌-◌}
-use native.Mathlib.Nat.{zero-add}
+use Prim.Native.Nat.{ℕ, ◌+◌, ◌^◌, ◌≤◌, ◌<◌}
+use native.Mathlib.Nat.{pow-le-pow_right}
 use native.Mathlib.Omega.{arith}
-use borrow.Author.Tests.{ne_eqb}
-use lib.Dec.{leb-suc-suc, leb}
-use lib.ListN.{length}
-use Rattle.text.specs.Part.{part}
-use Rattle.text.specs.Number.{digit_run, well_formed, value_from, read_run, read_number, number_from, number_at, rest_at}
-use Rattle.text.specs.declared.Number.TheVariants.{Value, NotOne}
+use borrow.Author.Tests.{lt-leb, le-leb, eq-eqb, ne_eqb}
+use Rattle.std.proofs.Math.Bool.{and-false}
+use lib.Dec.{eqb}
+use lib.ListN.{length, get_or, take, length-take}
+use Rattle.std.proofs.Common.{Some, None}
+use Rattle.text.specs.Number.{digit_run, well_formed, value_from, read_run, read_number, option_of}
+use Rattle.text.proofs.Run.{digit_range}
+use Rattle.text.proofs.Digits.{AllDigits, all_at, all_take, value_below}
+use Rattle.text.proofs.Numbers.{run_of}
 
--- a first digit b and those behind it, once it is settled whether the run is a number
-settled : (at b : ℕ) (run : List ℕ) (t : Bool) → number_from at (read_run t (b ∷ run)) ≡ cond t (Value (value_from (b - 48) run) (at + 1 + length run)) NotOne
-unfolding number_from read_run value_from
-settled at b run true =
-    let f : at + suc (length run) ≡ at + 1 + length run = omega arith in
-    rw (zero-add (b - 48), f)
-settled at b run false = refl
+-- runs that are no number
+none_there : (ds : List ℕ) → length ds ≡ 0 → well_formed ds ≡ false
+unfolding well_formed
+none_there [] h = refl
+none_there (d ∷ ds) h = absurd (omega arith)
 
-module _ (text : List ℕ) (at end : ℕ) where
-  pub no_digit : digit_run (part text at end) ≡ [] → number_at text at end ≡ NotOne
-  unfolding number_at read_number well_formed read_run number_from
-  no_digit h = rw h
+too_many : (ds : List ℕ) → 16 < length ds → well_formed ds ≡ false
+unfolding well_formed
+too_many [] h = absurd (omega arith)
+too_many (d ∷ []) h = absurd (omega arith)
+too_many (d ∷ e ∷ ds) h = rw (lt-leb _ _ h) (and-false (not (eqb d 48)))
 
-  pub zero_alone : digit_run (part text at end) ≡ 48 ∷ [] → number_at text at end ≡ Value 0 (at + 1)
-  unfolding number_at read_number well_formed read_run value_from number_from
-  zero_alone h = rw h
+zero-first : (ds : List ℕ) → 1 < length ds → get_or ds 0 0 ≡ 48 → well_formed ds ≡ false
+unfolding well_formed
+zero-first [] h z = absurd (omega arith)
+zero-first (d ∷ []) h z = absurd (omega arith)
+zero-first (d ∷ e ∷ ds) h z = rw (eq-eqb d 48 z)
 
-  pub zero-first : (e : ℕ) (run : List ℕ) → digit_run (part text at end) ≡ 48 ∷ e ∷ run → number_at text at end ≡ NotOne
-  unfolding number_at read_number well_formed read_run number_from
-  zero-first e run h = rw h
+-- and those that are one
+whole : (ds : List ℕ) → 1 ≤ length ds → length ds ≤ 16 → (1 < length ds → get_or ds 0 0 ≡ 48 → ⊥) → well_formed ds ≡ true
+unfolding well_formed
+whole [] some few h = absurd (omega arith)
+whole (d ∷ []) some few h = refl
+whole (d ∷ e ∷ ds) some few h = rw (ne_eqb d 48 (h (omega arith)), le-leb _ _ few)
 
-  pub other_first : (b : ℕ) (run : List ℕ) → (b ≡ 48 → ⊥) → digit_run (part text at end) ≡ b ∷ run
-      → number_at text at end ≡ rest_at (at + 1) (b - 48) 15 run
-  unfolding number_at read_number well_formed rest_at
-  other_first b [] n h = rw h (settled at b [] true)
-  other_first b (e ∷ run) n h = rw (h, ne_eqb b 48 n, leb-suc-suc (suc (length run)) 15) (settled at b (e ∷ run) (leb (suc (length run)) 15))
+module _ (s ds : List ℕ) (run : ds ≡ digit_run s) where
+  no_number : well_formed ds ≡ false → None ≡ option_of (read_number s)
+  unfolding read_number read_run
+  no_number h = rw (rw run at h)
+
+  pub empty_run : length ds ≡ 0 → None ≡ option_of (read_number s)
+  empty_run h = no_number (none_there ds h)
+
+  pub long_run : 16 < length ds → None ≡ option_of (read_number s)
+  long_run h = no_number (too_many ds h)
+
+  pub zero_run : 1 < length ds → get_or ds 0 0 ≡ 48 → None ≡ option_of (read_number s)
+  zero_run h z = no_number (zero-first ds h z)
+
+  pub number_run : 1 ≤ length ds → length ds ≤ 16 → (1 < length ds → get_or ds 0 0 ≡ 48 → ⊥)
+      → Some (value_from 0 ds, length ds) ≡ option_of (read_number s)
+  unfolding read_number read_run
+  number_run some few h = rw (← run, whole ds some few h)
+
+  -- one digit more of the run
+  all : AllDigits ds
+  all = rw run (run_of s).all
+
+  pub digit_there : (i : ℕ) → i < length ds → (48 ≤ get_or ds i 0) × (get_or ds i 0 ≤ 57)
+  digit_there i h = digit_range (get_or ds i 0) (all_at ds i all h)
+
+  pub value_fits : length ds ≤ 16 → (i : ℕ) → i ≤ length ds → value_from 0 (take i ds) < 10 ^ 16
+  value_fits few i h =
+      let l : 0 + length (take i ds) ≤ 16 = omega (arith, length-take i ds) in
+      let b : value_from 0 (take i ds) < 10 ^ (0 + length (take i ds)) = value_below 0 0 (take i ds) (omega arith) (all_take i ds all) in
+      let p : 10 ^ (0 + length (take i ds)) ≤ 10 ^ 16 = pow-le-pow_right {n = 10} (omega arith) {i = 0 + length (take i ds)} {j = 16} l in
+      omega arith

@@ -8,8 +8,9 @@ use native.Mathlib.Nat.{zero-add, add-zero, pow-succ', pow-le-pow_right}
 use native.Mathlib.Omega.{arith}
 use borrow.Author.Tests.{lt-ltb, le-ltb, ltb-true, ltb-false, eqb-false, ne_eqb, le-leb, not-true}
 use lib.Dec.{ltb, leb, eqb}
-use lib.ListN.{length, get_or, length-append, get_or-append}
+use lib.ListN.{length, take, get_or, length-append, get_or-append}
 use lib.Seq.{append_snoc}
+use Rattle.std.proofs.lemmas.List.{take_more}
 use Rattle.text.specs.Number.{digits_by, digits, is_digit, well_formed, value_from}
 use Rattle.text.proofs.Run.{digit_range, range_digit}
 use Rattle.text.proofs.Words.{both}
@@ -61,6 +62,10 @@ pub value_append : (v : ℕ) (ds : List ℕ) (d : ℕ) → value_from v (ds ++ (
 unfolding value_from
 value_append v [] d = refl
 value_append v (e ∷ ds) d = value_append (v * 10 + (e - 48)) ds d
+
+-- the value of the first digits, one digit more
+pub value_more : (ds : List ℕ) (i : ℕ) → i < length ds → value_from 0 (take i ds) * 10 + (get_or ds i 0 - 48) ≡ value_from 0 (take (i + 1) ds)
+value_more ds i h = sym (ap (value_from 0) (take_more ds i 0 h) ∙ value_append 0 (take i ds) (get_or ds i 0))
 
 pub value_one : (d : ℕ) → value_from 0 (d ∷ []) ≡ d - 48
 unfolding value_from
@@ -117,10 +122,24 @@ all_append : (ds : List ℕ) (d : ℕ) → AllDigits ds → is_digit d ≡ true 
 all_append [] d all h = (h, tt)
 all_append (e ∷ ds) d all h = (all.0, all_append ds d all.1 h)
 
+pub all_at : (ds : List ℕ) (i : ℕ) → AllDigits ds → i < length ds → is_digit (get_or ds i 0) ≡ true
+all_at [] i all h = absurd (omega arith)
+all_at (d ∷ ds) zero all h = all.0
+all_at (d ∷ ds) (suc i) all h = all_at ds i all.1 (omega arith)
+
+pub all_take : (i : ℕ) (ds : List ℕ) → AllDigits ds → AllDigits (take i ds)
+all_take zero ds all = tt
+all_take (suc i) [] all = tt
+all_take (suc i) (d ∷ ds) all = (all.0, all_take i ds all.1)
+
 pub digits_all : (n : ℕ) → AllDigits (digits n)
 digits_all = by_tens (λ n. AllDigits (digits n))
     (λ n h. rw (digits_small n h) (range_digit (48 + n) (omega arith) (omega arith), tt))
     (λ n h ih. rw (digits_more n h) (all_append (digits (n / 10)) (48 + n % 10) ih (range_digit (48 + n % 10) (omega arith) (omega arith))))
+
+-- and is `0` to `9`
+pub digits_range : (n i : ℕ) → i < length (digits n) → (48 ≤ get_or (digits n) i 0) × (get_or (digits n) i 0 ≤ 57)
+digits_range n i h = digit_range (get_or (digits n) i 0) (all_at (digits n) i (digits_all n) h)
 
 -- a digit behind a number that is not 0
 digits_snoc : (v d : ℕ) → 1 ≤ v → is_digit d ≡ true → digits (v * 10 + (d - 48)) ≡ digits v ++ (d ∷ [])

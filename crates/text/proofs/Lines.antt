@@ -8,8 +8,9 @@ use native.Mathlib.Nat.{add_assoc, suc-add}
 use native.Mathlib.Omega.{arith}
 use borrow.Author.Tests.{eqb-true, not-true}
 use lib.Dec.{eqb}
-use lib.ListN.{length, take, drop, length-append, length-drop}
-use lib.Seq.{drop-drop, take-length}
+use native.Mathlib.Numerals.{add-one}
+use lib.ListN.{length, take, drop, get_or, length-append, length-drop, take-append-drop}
+use lib.Seq.{drop-drop, drop-cons, take-length, length-take-le}
 use Rattle.text.specs.Part.{part}
 use Rattle.text.specs.Line.{Lines, nothing, unended, ended, before, lines, draw_lines, no_lf, next_number, hand_out, next_line}
 use Rattle.text.specs.declared.Cursor.{Cursor}
@@ -180,3 +181,35 @@ module _ (text : List ℕ) (c : Cursor) where
           (q, cc, omega (arith, length-drop c.at text, ap length f))
       go (unended l) q e = let z : ◌≡◌ {A = ℕ} 0 1 = cc in absurd (omega arith)
       go (ended l rest) q e = let z : ◌≡◌ {A = ℕ} 0 1 = cc in absurd (omega arith)
+
+-- the first line by where its LF stands
+first_at : (s : List ℕ) (n : ℕ) → n < length s → get_or s n 0 ≡ 10 → no_lf (take n s) ≡ true → lines s ≡ ended (take n s) (lines (drop (n + 1) s))
+first_at s n inside h clean =
+    let d : drop n s ≡ 10 ∷ drop (n + 1) s = drop-cons s n 0 inside ∙ rw (h, add-one n) in
+    ap lines (sym (take-append-drop n s) ∙ ap (λ (l : List ℕ). take n s ++ l) d) ∙ lines_ended (take n s) (drop (n + 1) s) clean
+
+-- what is answered, by the bytes that are left at the cursor
+module _ (text : List ℕ) (c : Cursor) (rest : List ℕ) (there : rest ≡ drop c.at text) where
+  pub lf_found : (n : ℕ) → n < length rest → get_or rest n 0 ≡ 10 → no_lf (take n rest) ≡ true
+      → Line c.at (c.at + n) c.number (record { at = c.at + n + 1; number = next_number c.number }) ≡ next_line text c
+  unfolding next_line hand_out
+  lf_found n inside h clean =
+      let l : n ≡ length (take n rest) = sym (length-take-le n rest (omega arith)) in
+      ap (λ (k : ℕ). Line c.at (c.at + k) c.number (record { at = c.at + k + 1; number = next_number c.number })) l
+      ∙ sym (ap (hand_out c) (ap lines (sym there) ∙ first_at rest n inside h clean))
+
+  pub lf_missing : 1 ≤ length rest → no_lf rest ≡ true → Unended c.at (c.at + length rest) c.number ≡ next_line text c
+  unfolding next_line hand_out
+  lf_missing some clean = go rest some clean there
+    where
+      go : (l : List ℕ) → 1 ≤ length l → no_lf l ≡ true → l ≡ drop c.at text → Unended c.at (c.at + length l) c.number ≡ hand_out c (lines (drop c.at text))
+      go [] some clean e = absurd (omega arith)
+      go (b ∷ l) some clean e = sym (ap (hand_out c) (ap lines (sym e) ∙ lines_unended b l clean))
+
+  pub nothing_left : length rest ≡ 0 → Done c.number ≡ next_line text c
+  unfolding next_line hand_out lines
+  nothing_left none = go rest none there
+    where
+      go : (l : List ℕ) → length l ≡ 0 → l ≡ drop c.at text → Done c.number ≡ hand_out c (lines (drop c.at text))
+      go [] none e = sym (ap (λ (k : List ℕ). hand_out c (lines k)) (sym e))
+      go (b ∷ l) none e = absurd (omega arith)

@@ -1,12 +1,14 @@
 -- What the comparisons with a word say: a text that begins with the word is the word and then a rest, and a text that is the word is equal
 -- to it. Assumes nothing.
-use mathlib.Core.Path.{◌≡◌, refl, sym}
-use mathlib.Core.Bool.{Bool, true, false, ◌&&◌, and_assoc, false≢true}
+use mathlib.Core.Path.{◌≡◌, refl}
+use mathlib.Core.Bool.{Bool, true, false, ◌&&◌, false≢true}
 use mathlib.Core.List.{List, [], ◌∷◌, ◌++◌}
 use Prim.Native.Nat.{ℕ, ◌-◌, ◌≤◌, zero-le, suc-le-suc, min}
 use borrow.Author.Tests.{eq-eqb, eqb-true}
-use lib.Dec.{eqb, leb, leb-suc-zero, leb-suc-suc}
-use lib.ListN.{length, drop}
+use lib.Dec.{eqb}
+use lib.ListN.{length, drop, take}
+use Rattle.std.proofs.Common.{nat_eq}
+use Rattle.std.specs.Cmp.Lexicographic.{pointwise}
 use Rattle.text.specs.Part.{part}
 use Rattle.text.specs.Word.{starts_with, is_word}
 use Rattle.text.proofs.Parts.{part_length}
@@ -58,10 +60,16 @@ is_word_lem (w ∷ word) (b ∷ s) h =
     let q : s ≡ word = is_word_lem word s p.1 in
     cc
 
--- a text is the word where it begins with it and is no longer
-pub is_starts : (word s : List ℕ) → is_word word s ≡ (starts_with word s && leb (length s) (length word))
-unfolding starts_with is_word
-is_starts [] [] = refl
-is_starts [] (b ∷ s) = sym (leb-suc-zero (length s))
-is_starts (w ∷ word) [] = refl
-is_starts (w ∷ word) (b ∷ s) = rw (leb-suc-suc (length s) (length word), is_starts word s) (sym (and_assoc (eqb b w) (starts_with word s) (leb (length s) (length word))))
+-- the comparison of code with the front of a text, and with a whole text
+pub starts_pointwise : (word s : List ℕ) → pointwise nat_eq (take (length word) s) word ≡ starts_with word s
+unfolding starts_with
+starts_pointwise [] s = refl
+starts_pointwise (w ∷ word) [] = refl
+starts_pointwise (w ∷ word) (b ∷ s) = rw (starts_pointwise word s)
+
+pub is_pointwise : (word s : List ℕ) → pointwise nat_eq s word ≡ is_word word s
+unfolding is_word
+is_pointwise [] [] = refl
+is_pointwise [] (b ∷ s) = refl
+is_pointwise (w ∷ word) [] = refl
+is_pointwise (w ∷ word) (b ∷ s) = rw (is_pointwise word s)

@@ -1,11 +1,9 @@
 -- A form on one line: a word, then numbers, each behind one space, then `)`. How it is drawn, and how it is read.
 use Rattle.std.specs.Prelude.{ℕ, zero, suc, ◌^◌, ◌<◌, Bool, true, false, List, [], ◌∷◌, ◌++◌, eqb, length, drop, get_or}
+use Rattle.std.specs.Prelude as code
 use Rattle.std.proofs.Math.Option.{Option, none, some}
 use Rattle.text.specs.Number.{digits, read_number}
-use Rattle.text.specs.Part.{part}
 use Rattle.text.specs.Word.{starts_with, is_word}
-use Rattle.text.specs.declared.Form.{Form}
-use Rattle.text.specs.declared.Form.TheVariants.{Numbers, NoForm}
 
 -- each number behind a space, byte 32, and then `)`, byte 41
 unfoldable pub draw_numbers : List ℕ → List ℕ
@@ -50,10 +48,7 @@ read_behind false count s = none
 unfoldable pub read_form : List ℕ → ℕ → List ℕ → Option (List ℕ)
 read_form word count line = read_behind (starts_with word line) count (drop (length word) line)
 
--- as an answer: the first four numbers, 0 where there are fewer
-unfoldable pub form_of : Option (List ℕ) → Form
-form_of none = NoForm
-form_of (some ns) = Numbers (get_or ns 0 0) (get_or ns 1 0) (get_or ns 2 0) (get_or ns 3 0)
-
-unfoldable pub form_at : List ℕ → ℕ → ℕ → List ℕ → ℕ → Form
-form_at text start end word count = form_of (read_form word count (part text start end))
+-- as the answer that code gives: the first four numbers, 0 where there are fewer
+unfoldable pub form_of : Option (List ℕ) → code.Option (List ℕ)
+form_of none = code.None
+form_of (some ns) = code.Some (get_or ns 0 0 ∷ get_or ns 1 0 ∷ get_or ns 2 0 ∷ get_or ns 3 0 ∷ [])

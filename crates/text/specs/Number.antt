@@ -1,9 +1,6 @@
 -- Decimal numbers: how one is written, and what is read as one.
-use Rattle.std.specs.Prelude.{ℕ, zero, suc, ◌+◌, ◌-◌, ◌*◌, ◌/◌, ◌%◌, Bool, true, false, not, ◌&&◌, cond, List, [], ◌∷◌, ◌++◌, eqb, leb, ltb, length}
-use Rattle.std.proofs.Math.Option.{Option, none, some}
-use Rattle.text.specs.Part.{part}
-use Rattle.text.specs.declared.Number.{Number}
-use Rattle.text.specs.declared.Number.TheVariants.{Value, NotOne}
+use Rattle.std.specs.Prelude.{ℕ, zero, suc, ◌+◌, ◌-◌, ◌*◌, ◌/◌, ◌%◌, Bool, true, false, not, ◌&&◌, List, [], ◌∷◌, ◌++◌, eqb, leb, ltb, length, Option, Some, None}
+use Rattle.std.proofs.Math.Option as math
 
 -- n in decimal, the most significant digit first. The first number bounds the recursion: n + 1 is more than n has digits.
 unfoldable pub digits_by : ℕ → ℕ → List ℕ
@@ -39,22 +36,14 @@ value_from v [] = v
 value_from v (d ∷ run) = value_from (v * 10 + (d - 48)) run
 
 -- what is read at the front of s: a number's value and how many bytes it takes, or no number
-unfoldable pub read_run : Bool → List ℕ → Option (ℕ × ℕ)
-read_run true run = some (value_from 0 run, length run)
-read_run false run = none
+unfoldable pub read_run : Bool → List ℕ → math.Option (ℕ × ℕ)
+read_run true run = math.some (value_from 0 run, length run)
+read_run false run = math.none
 
-unfoldable pub read_number : List ℕ → Option (ℕ × ℕ)
+unfoldable pub read_number : List ℕ → math.Option (ℕ × ℕ)
 read_number s = read_run (well_formed (digit_run s)) (digit_run s)
 
--- the same with places: the place behind the number, where it is read at `at`
-unfoldable pub number_from : ℕ → Option (ℕ × ℕ) → Number
-number_from at none = NotOne
-number_from at (some r) = Value r.0 (at + r.1)
-
--- the number at a place of the text, of which only the bytes before `end` are looked at
-unfoldable pub number_at : List ℕ → ℕ → ℕ → Number
-number_at text at end = number_from at (read_number (part text at end))
-
--- what is read behind digits that made v: at most `left` digits more, standing at `at`
-unfoldable pub rest_at : ℕ → ℕ → ℕ → List ℕ → Number
-rest_at at v left run = cond (leb (length run) left) (Value (value_from v run) (at + length run)) NotOne
+-- as the answer that code gives
+abbrev pub option_of : {A : Type 0} → math.Option A → Option A
+option_of math.none = None
+option_of (math.some x) = Some x

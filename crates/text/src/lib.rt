@@ -3,22 +3,21 @@
 // for every input, by a definition of specs/.
 #![tactic(auto)]
 
-ghost use Rattle.std.specs.Prelude.{◌≡◌, false, cond, ℕ, ◌+◌, ◌-◌, ◌^◌, ◌≤◌, ◌<◌, min, eqb, length, get_or};
-ghost use Rattle.text.specs.Part.{part};
-ghost use Rattle.text.specs.Line.{next_line, next_number};
-ghost use Rattle.text.specs.Number.{is_digit, digit_run, rest_at, number_at};
-ghost use Rattle.text.specs.Word.{starts_with, is_word};
-ghost use Rattle.text.specs.Form.{read_numbers, form_of, form_at};
+ghost use Rattle.std.specs.Prelude.{◌≡◌, true, ◌≤◌, ◌<◌, length, take, get_or, MatchOption};
+ghost use Rattle.text.specs.Part.{PartOf};
+ghost use Rattle.text.specs.Line.{no_lf, next_line, next_number};
+ghost use Rattle.text.specs.Number.{digit_run, read_number, option_of};
+ghost use Rattle.text.specs.Form.{read_numbers, read_form, form_of};
 
 // A place in a text, and the number of the line that starts there.
-#[derive(Clone, Copy)]
+#[derive(Clone, Copy, Debug, PartialEq, Eq)]
 pub struct Cursor {
     pub at: usize,
     pub number: usize,
 }
 
 // What the scanner hands out: a line with its LF, bytes start to end without it; bytes behind the last LF; or nothing is left.
-#[derive(Drop)]
+#[derive(Clone, Copy, Debug, PartialEq, Eq)]
 pub enum Next {
     Line {
         start: usize,
@@ -36,22 +35,6 @@ pub enum Next {
     },
 }
 
-// A number that was read, and the place behind it.
-#[derive(Drop)]
-pub enum Number {
-    Value { value: u64, next: usize },
-    NotOne,
-}
-
-// The numbers of a form, 0 where it has fewer than four.
-#[derive(Drop)]
-pub enum Form {
-    Numbers(u64, u64, u64, u64),
-    NoForm,
-}
-
-const LAST: usize = 18446744073709551615;
-
 // Where the text starts: line 1.
 pub fn first_line() -> Cursor
     ensures { (result.at ≡ 0) × (result.number ≡ 1) }
@@ -59,66 +42,47 @@ pub fn first_line() -> Cursor
     Cursor { at: 0, number: 1 }
 }
 
-// Whether one of the eight bytes from a place on is LF. Without branches, so that the compiler compares them at once.
-fn has_lf(text: &[u8], i: usize) -> bool
-    requires { i + 8 ≤ length text.now }
-    ensures { result ≡ false → (k : ℕ) → i ≤ k → k < i + 8 → eqb (get_or text.now k 0) 10 ≡ false }
+// How many bytes in front lie in blocks of eight without LF. The compiler compares the bytes of a block at once.
+fn plain_front(s: &[u8]) -> usize
+    ensures { (result ≤ length s.now) × (no_lf (take result s.now) ≡ true) }
 {
-    let first = (text[i] == 10) | (text[i + 1] == 10) | (text[i + 2] == 10) | (text[i + 3] == 10);
-    let last = (text[i + 4] == 10)
-        | (text[i + 5] == 10)
-        | (text[i + 6] == 10)
-        | (text[i + 7] == 10);
-    first | last
+    s.chunks_exact(8)
+        .take_while(|block| !block.contains(&b'\n'))
+        .count()
+        * 8
 }
 
-// A place from `at` on with no LF between the two: behind all blocks of eight bytes that have none.
-fn past_plain(text: &[u8], at: usize) -> usize
-    ensures { (at ≤ result) × (at < result → result ≤ length text.now) × ((k : ℕ) → at ≤ k → k < result → eqb (get_or text.now k 0) 10 ≡ false) }
+// Where the first LF stands.
+fn line_length(s: &[u8]) -> Option<usize>
+    ensures { MatchOption result (no_lf s.now ≡ true) (λ n. (n < length s.now) × (get_or s.now n 0 ≡ 10) × (no_lf (take n s.now) ≡ true)) }
 {
-    if text.len() < 8 {
-        return at;
-    }
-    let last = text.len() - 8;
-    let mut i = at;
-    while i <= last {
-        if has_lf(text, i) {
-            return i;
-        }
-        i += 8;
-    }
-    i
+    let plain = plain_front(s);
+    let more = s[plain..].iter().position(|b| *b == b'\n')?;
+    Some(plain + more)
 }
 
 // The line at the cursor, with its number.
 pub fn next_line(text: &[u8], c: Cursor) -> Next
     ensures { result ≡ next_line text.now c }
 {
-    let at = c.at;
-    let number = c.number;
-    let mut i = past_plain(text, at);
-    while i < text.len() {
-        if text[i] == 10 {
-            return Next::Line {
-                start: at,
-                end: i,
-                number,
-                next: Cursor {
-                    at: i + 1,
-                    number: next_number(number),
-                },
-            };
-        }
-        i += 1;
-    }
-    if at < i {
-        Next::Unended {
+    let Cursor { at, number } = c;
+    let rest = &text[at.min(text.len())..];
+    match line_length(rest) {
+        Some(length) => Next::Line {
             start: at,
-            end: i,
+            end: at + length,
             number,
-        }
-    } else {
-        Next::Done { number }
+            next: Cursor {
+                at: at + length + 1,
+                number: next_number(number),
+            },
+        },
+        None if rest.is_empty() => Next::Done { number },
+        None => Next::Unended {
+            start: at,
+            end: at + rest.len(),
+            number,
+        },
     }
 }
 
@@ -126,168 +90,77 @@ pub fn next_line(text: &[u8], c: Cursor) -> Next
 pub fn next_number(n: usize) -> usize
     ensures { result ≡ next_number n }
 {
-    if n < LAST { n + 1 } else { LAST }
+    n.saturating_add(1)
 }
 
-// The byte at a place, or 0 where none is there.
-fn front(text: &[u8], at: usize, end: usize) -> u8
-    ensures { result ≡ get_or (part text.now at end) 0 0 }
+// The part of a text from one place to another, as it stands in it. What lies behind the text's end is not there.
+pub fn part(text: &[u8], start: usize, end: usize) -> &[u8]
+    ensures { PartOf text.entry start end result }
 {
-    if at < end {
-        if at < text.len() {
-            return text[at];
+    let n = text.len();
+    if n <= start {
+        return &text[n..];
+    }
+    if end <= start {
+        return &text[start..start];
+    }
+    if n <= end {
+        return &text[start..];
+    }
+    &text[start..end]
+}
+
+// The digits at the front of the bytes, all of them.
+fn digit_run(s: &[u8]) -> &[u8]
+    ensures { result.now ≡ digit_run s.now }
+{
+    let count = s.iter().take_while(|b| b.is_ascii_digit()).count();
+    &s[..count]
+}
+
+// The number at the front of the bytes, and how many bytes it takes: the digits there are taken whole, and they are a number if there are
+// 1 to 16 of them with no leading zero.
+pub fn number_at(s: &[u8]) -> Option<(u64, usize)>
+    ensures { result ≡ option_of (read_number s.now) }
+{
+    let digits = digit_run(s);
+    if digits.is_empty() || 16 < digits.len() {
+        return None;
+    }
+    if digits[0] == b'0' && 1 < digits.len() {
+        return None;
+    }
+    let mut value = 0;
+    for digit in digits {
+        value = value * 10 + u64::from(*digit - b'0');
+    }
+    Some((value, digits.len()))
+}
+
+// `count` numbers, each behind one space, and `)`, to the end of the bytes. The first four are handed out, 0 where there are fewer.
+pub fn numbers_from(s: &[u8], count: u8) -> Option<[u64; 4]>
+    ensures { result ≡ form_of (read_numbers count s.now) }
+{
+    let mut numbers = [0u64; 4];
+    let mut rest = s;
+    for i in 0..count as usize {
+        let behind = rest.strip_prefix(b" ")?;
+        let (value, length) = number_at(behind)?;
+        if i < 4 {
+            numbers[i] = value;
         }
+        rest = &behind[length..];
     }
-    0
+    if rest == b")".as_slice() {
+        Some(numbers)
+    } else {
+        None
+    }
 }
 
-fn is_digit(b: u8) -> bool
-    ensures { result ≡ is_digit b }
+// A line as a form: the word, `count` numbers, each behind one space, and `)`. The first four numbers are handed out.
+pub fn form_at(line: &[u8], word: &[u8], count: u8) -> Option<[u64; 4]>
+    ensures { result ≡ form_of (read_form word.now count line.now) }
 {
-    if b < 48 { false } else { b <= 57 }
-}
-
-fn wide(b: u8) -> u64
-    ensures { result ≡ b }
-{
-    b as u64
-}
-
-// The shorter of two lengths.
-fn shorter(a: usize, b: usize) -> usize
-    ensures { result ≡ min a b }
-{
-    if a < b { a } else { b }
-}
-
-// The rest of a number whose digits so far made `value`, and of which at most `left` digits may follow.
-fn digits_from(text: &[u8], at: usize, end: usize, value: u64, left: u8) -> Number
-    requires { (left ≤ 15) × (value < 10 ^ (16 - left)) }
-    ensures { result ≡ rest_at at value left (digit_run (part text.now at end)) }
-{
-    let last = shorter(end, text.len());
-    let mut p = at;
-    let mut v = value;
-    let mut l = left;
-    while p < last {
-        let b = text[p];
-        if !is_digit(b) {
-            return Number::Value { value: v, next: p };
-        }
-        if l == 0 {
-            return Number::NotOne;
-        }
-        v = v * 10 + wide(b - 48);
-        l -= 1;
-        p += 1;
-    }
-    Number::Value { value: v, next: p }
-}
-
-// The number at a place: the digits there are taken whole, and they are a number if there are 1 to 16 of them with no leading zero.
-// Only bytes before `end` are looked at.
-pub fn number_at(text: &[u8], at: usize, end: usize) -> Number
-    ensures { result ≡ number_at text.now at end }
-{
-    let b = front(text, at, end);
-    if !is_digit(b) {
-        return Number::NotOne;
-    }
-    if b == 48 {
-        let second = front(text, at + 1, end);
-        if is_digit(second) {
-            return Number::NotOne;
-        }
-        return Number::Value {
-            value: 0,
-            next: at + 1,
-        };
-    }
-    digits_from(text, at + 1, end, wide(b - 48), 15)
-}
-
-// Whether the bytes from a place on, before `end`, begin with the word.
-pub fn word_at(text: &[u8], at: usize, end: usize, word: &[u8]) -> bool
-    ensures { result ≡ starts_with word.now (part text.now at end) }
-{
-    let mut p = at;
-    let mut i = 0;
-    while i < word.len() {
-        if end <= p {
-            return false;
-        }
-        if text.len() <= p {
-            return false;
-        }
-        if text[p] != word[i] {
-            return false;
-        }
-        p += 1;
-        i += 1;
-    }
-    true
-}
-
-// Whether the bytes from start to end are the word, no byte more.
-pub fn line_is(text: &[u8], start: usize, end: usize, word: &[u8]) -> bool
-    ensures { result ≡ is_word word.now (part text.now start end) }
-{
-    if !word_at(text, start, end, word) {
-        return false;
-    }
-    let behind = start + word.len();
-    if end <= behind {
-        return true;
-    }
-    if text.len() <= behind {
-        return true;
-    }
-    false
-}
-
-// One of a form's first four numbers: the value that was read last, where its place is this one, and else what it was.
-fn placed(last: u8, place: u8, value: u64, before: u64) -> u64
-    ensures { result ≡ cond (eqb last place) value before }
-{
-    if last == place { value } else { before }
-}
-
-// `count` numbers, each behind one space, and `)`, from a place to the end of its line. The first four numbers are handed out.
-pub fn numbers_from(text: &[u8], at: usize, end: usize, count: u8) -> Form
-    ensures { result ≡ form_of (read_numbers count (part text.now at end)) }
-{
-    let mut a = 0;
-    let mut b = 0;
-    let mut c = 0;
-    let mut d = 0;
-    let mut p = at;
-    let mut i = 0;
-    while i < count {
-        if front(text, p, end) != 32 {
-            return Form::NoForm;
-        }
-        let Number::Value { value, next } = number_at(text, p + 1, end) else {
-            return Form::NoForm;
-        };
-        a = placed(i, 0, value, a);
-        b = placed(i, 1, value, b);
-        c = placed(i, 2, value, c);
-        d = placed(i, 3, value, d);
-        p = next;
-        i += 1;
-    }
-    if line_is(text, p, end, b")") {
-        return Form::Numbers(a, b, c, d);
-    }
-    Form::NoForm
-}
-
-// The line from start to end as a form: the word, `count` numbers, each behind one space, and `)`. The first four numbers are handed out.
-pub fn form_at(text: &[u8], start: usize, end: usize, word: &[u8], count: u8) -> Form
-    ensures { result ≡ form_at text.now start end word.now count }
-{
-    if !word_at(text, start, end, word) {
-        return Form::NoForm;
-    }
-    numbers_from(text, start + word.len(), end, count)
+    numbers_from(line.strip_prefix(word)?, count)
 }

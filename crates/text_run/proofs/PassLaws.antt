@@ -1,4 +1,5 @@
 -- The run from a reader's place on, by the line that the reader hands out there.
+use Rattle.std.specs.Prelude.{Option, Some, None}
 use mathlib.Core.Path.{◌≡◌, refl, sym, ap, ◌∙◌}
 use mathlib.Core.Bool.{Bool, true, false}
 use mathlib.Core.List.{List}
@@ -14,15 +15,12 @@ use Rattle.text.proofs.Parts.{part_length}
 use Rattle.text.proofs.Lines.{scanned_line, scanned_unended}
 use Rattle.reader.specs.declared.Found.{Found}
 use Rattle.reader.specs.LineReader.{found, found_at}
-use Rattle.writer.specs.declared.Put.{Put}
-use Rattle.writer.specs.declared.Put.TheVariants.{Behind, Short}
 use Rattle.log_lines.specs.FirstLine.{refused_line}
 use Rattle.event_lines.specs.Event.{event_of, call_on}
 use Rattle.log_spec.specs.Cells.{Run, line, going_on, event_line_by, next_by, events_by}
-use Rattle.text_run.specs.declared.Went.{Went}
 use Rattle.line_run.specs.LineRun.{Ran, line_by}
 use Rattle.line_run.proofs.LineLaws.{some_bytes, no_bytes}
-use Rattle.text_run.specs.LinePass.{went_by}
+use Rattle.line_run.proofs.Ran.{onto, halted}
 
 -- behind a line with its LF the run goes on
 abbrev pub behind_line : Bool → (List ℕ → List ℕ → ℕ → Run) → Run → Run
@@ -74,38 +72,14 @@ module _ (write : Bool) (P text : List ℕ) (at number left : ℕ) (s b : List �
       let w = nearer h in
       omega (arith, w.0, w.1)
 
--- how the run goes on
-put_of : (ended : Bool) (p : Put) → (went_by ended p).put ≡ p
-unfolding went_by
-put_of ended (Behind y) = refl
-put_of ended Short = refl
+-- how the run goes on, by whether the line fitted and whether its LF was there
+module _ (more : List ℕ → List ℕ → ℕ → Run) (x : Run) {s' b' : List ℕ} where
+  pub short : (ended : Bool) → Ran x None s' b' → Ran (behind_line ended more x) None s' b'
+  short true came = halted more x came
+  short false came = came
 
-goes_on : (ended : Bool) (p : Put) → (went_by ended p).more ≡ true → (ended ≡ true) × (p ≡ Behind (went_by ended p).at)
-unfolding went_by
-goes_on ended (Behind y) h = (h, refl)
-goes_on ended Short h = let q : ◌≡◌ {A = ℕ} 0 1 = cc in absurd (omega arith)
+  pub over : (ended : Bool) → ended ≡ false → {r : Option ℕ} → Ran x r s' b' → Ran (behind_line ended more x) r s' b'
+  over ended e came = rw e came
 
-short_stops : (more : List ℕ → List ℕ → ℕ → Run) (x : Run) (p : Put) → x.put ≡ p → (went_by true p).more ≡ false → going_on more x ≡ x
-unfolding went_by
-short_stops more x (Behind y) q h = let r : ◌≡◌ {A = ℕ} 0 1 = cc in absurd (omega arith)
-short_stops more x Short q h =
-    (λ i. going_on more (record { put = q i; cells = x.cells; buffer = x.buffer })) ∙ (λ i. record { put = sym q i; cells = x.cells; buffer = x.buffer })
-
-module _ (more : List ℕ → List ℕ → ℕ → Run) (x : Run) where
-  stops : (ended : Bool) → (went_by ended x.put).more ≡ false → behind_line ended more x ≡ x
-  stops true h = short_stops more x x.put refl h
-  stops false h = refl
-
-  -- the run is over
-  pub over : (ended : Bool) {w : Went} {s' b' : List ℕ} → w ≡ went_by ended x.put → s' ≡ x.cells → b' ≡ x.buffer → w.more ≡ false → Ran (behind_line ended more x) w.put s' b'
-  over ended {w} e cells buffer h =
-      let m : (went_by ended x.put).more ≡ false = sym (ap (λ (v : Went). v.more) e) ∙ h in
-      rw (stops ended m) (ap (λ (v : Went). v.put) e ∙ put_of ended x.put, (cells, buffer))
-
-  -- it goes on behind the line
-  pub onward : (ended : Bool) {w : Went} {s' b' : List ℕ} → w ≡ went_by ended x.put → s' ≡ x.cells → b' ≡ x.buffer → w.more ≡ true → (ended ≡ true) × (behind_line ended more x ≡ more s' b' w.at)
-  onward ended {w} {s'} {b'} e cells buffer h =
-      let m : (went_by ended x.put).more ≡ true = sym (ap (λ (v : Went). v.more) e) ∙ h in
-      let g = goes_on ended x.put m in
-      let p : x.put ≡ Behind w.at = g.1 ∙ ap Behind (sym (ap (λ (v : Went). v.at) e)) in
-      (g.0, ap (λ (t : Bool). behind_line t more x) g.0 ∙ (λ i. going_on more (record { put = p i; cells = sym cells i; buffer = sym buffer i })))
+  pub onwards : (ended : Bool) → ended ≡ true → {z : ℕ} → Ran x (Some z) s' b' → behind_line ended more x ≡ more s' b' z
+  onwards ended e came = rw e (onto more x came)

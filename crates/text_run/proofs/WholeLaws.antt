@@ -1,14 +1,14 @@
 -- The run behind the plan's line, and the whole run, by what each call answered.
+use Rattle.std.specs.Prelude.{Option, Some, None, Result, Ok, Err}
 use Prim.Native.Nat.{ℕ, suc}
 use mathlib.Core.Path.{◌≡◌, refl, sym, ap, ◌∙◌}
 use mathlib.Core.Bool.{Bool}
 use mathlib.Core.List.{List}
 use lib.ListN.{length}
 use Rattle.writer.specs.Write.{put_answer, pass_buffer}
-use Rattle.writer.specs.declared.Put.{Put}
-use Rattle.writer.specs.declared.Put.TheVariants.{Behind, Short}
-use Rattle.plan.specs.declared.Answer.{Answer}
-use Rattle.plan.specs.declared.Answer.TheVariants.{Taken, Refused}
+use Rattle.plan_tree.specs.declared.Refused as tree
+use Rattle.plan.specs.declared.Taken as code
+use Rattle.plan.specs.Answer.{Answer, Taken, Refused, told_answer}
 use Rattle.plan.specs.Reading.{Read, reading, leaves}
 use Rattle.log_lines.specs.Handed.{handed}
 use Rattle.log_lines.specs.FirstLine.{first_line}
@@ -17,16 +17,16 @@ use Rattle.log_spec.specs.Cells.{line, going_on, events_by, behind_plan, pass_by
 use Rattle.line_run.specs.LineRun.{Ran}
 use Rattle.line_run.proofs.Ran.{ran_same, onward, halted}
 
-module _ (write : Bool) (text : List ℕ) (answer : Answer) (P s b : List ℕ) (at : ℕ) where
-  pub plan_refused : (l n : ℕ) → answer ≡ Refused l n → Ran (behind_plan write text answer P s b at) (Behind at) s b
+module _ (write : Bool) (text : List ℕ) (answer : Result code.Taken tree.Refused) (P s b : List ℕ) (at : ℕ) where
+  pub plan_refused : {e : tree.Refused} → answer ≡ Err e → Ran (behind_plan write text (told_answer answer) P s b at) (Some at) s b
   unfolding behind_plan
-  plan_refused l n e = rw e (refl, (refl, refl))
+  plan_refused e = rw e (refl, (refl, refl))
 
-  pub plan_taken : (nodes hubs place number : ℕ) → answer ≡ Taken nodes hubs place number → {s' : List ℕ} → s' ≡ fresh_cells
-      → {r : Put} {s'' b'' : List ℕ} → Ran (events_by write P text (suc (length text)) (record { at = place; number = number }) s' b at) r s'' b''
-      → Ran (behind_plan write text answer P s b at) r s'' b''
+  pub plan_taken : (x : code.Taken) → answer ≡ Ok x → {s' : List ℕ} → s' ≡ fresh_cells
+      → {r : Option ℕ} {s'' b'' : List ℕ} → Ran (events_by write P text (suc (length text)) (record { at = x.at; number = x.line }) s' b at) r s'' b''
+      → Ran (behind_plan write text (told_answer answer) P s b at) r s'' b''
   unfolding behind_plan
-  plan_taken nodes hubs place number e f x = rw e (rw f at x)
+  plan_taken x e f w = rw e (rw f at w)
 
 -- behind a refused plan the lent tables don't matter, and a taken one's are the reading's
 tables_left : (write : Bool) (text : List ℕ) (x : Read) (old s b : List ℕ) (at : ℕ) → behind_plan write text x.answer x.tables s b at ≡ behind_plan write text x.answer (leaves x old) s b at
@@ -39,19 +39,19 @@ tables_left write text x old s b at = go x.answer
 
 -- t is the part of the text that is read, and `answer` the reading's
 module _ (write : Bool) (text s b old : List ℕ) {t : List ℕ} (part : t ≡ handed text) {answer : Answer} (read : answer ≡ (reading t).answer)
-    {put : Put} {b' : List ℕ} (p : put ≡ put_answer b 0 (first_line answer)) (w : b' ≡ pass_buffer write b 0 (first_line answer)) where
+    {b' : List ℕ} (w : b' ≡ pass_buffer write b 0 (first_line answer)) where
   runs : pass_by write text s b ≡ going_on (behind_plan write t answer (reading t).tables) (line write (first_line answer) s b 0)
   unfolding pass_by
   runs =
       ap (λ (x : List ℕ). going_on (behind_plan write x (reading x).answer (reading x).tables) (line write (first_line (reading x).answer) s b 0)) (sym part)
       ∙ ap (λ (a : Answer). going_on (behind_plan write t a (reading t).tables) (line write (first_line a) s b 0)) (sym read)
 
-  pub pass_short : put ≡ Short → Ran (pass_by write text s b) Short s b'
-  pass_short e = ran_same runs (halted (behind_plan write t answer (reading t).tables) (line write (first_line answer) s b 0) (p, (refl, w)) e)
+  pub pass_short : None ≡ put_answer b 0 (first_line answer) → Ran (pass_by write text s b) None s b'
+  pass_short p = ran_same runs (halted (behind_plan write t answer (reading t).tables) (line write (first_line answer) s b 0) (p, (refl, w)))
 
-  pub pass_on : {P : List ℕ} → P ≡ leaves (reading t) old → (z : ℕ) → put ≡ Behind z
-      → {r : Put} {s'' b'' : List ℕ} → Ran (behind_plan write t answer P s b' z) r s'' b'' → Ran (pass_by write text s b) r s'' b''
-  pass_on {P} left z e x =
+  pub pass_on : {P : List ℕ} → P ≡ leaves (reading t) old → {z : ℕ} → Some z ≡ put_answer b 0 (first_line answer)
+      → {r : Option ℕ} {s'' b'' : List ℕ} → Ran (behind_plan write t answer P s b' z) r s'' b'' → Ran (pass_by write text s b) r s'' b''
+  pass_on {P} left {z} p x =
       let same : behind_plan write t answer (reading t).tables s b' z ≡ behind_plan write t answer P s b' z = rw (read, left) (tables_left write t (reading t) old s b' z) in
       ran_same runs
-      (onward (behind_plan write t answer (reading t).tables) (line write (first_line answer) s b 0) (p, (refl, w)) z e (ran_same same x))
+      (onward (behind_plan write t answer (reading t).tables) (line write (first_line answer) s b 0) (p, (refl, w)) (ran_same same x))

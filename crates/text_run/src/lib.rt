@@ -4,65 +4,23 @@
 
 ghost use Rattle.std.specs.Prelude.{◌≡◌, true, suc, ◌≤◌, length};
 ghost use Rattle.plan.specs.Reading.{reading, leaves};
+ghost use Rattle.plan.specs.Answer.{told_answer};
 ghost use Rattle.log_lines.specs.Handed.{handed};
 ghost use Rattle.log_spec.specs.Cells.{events_by, behind_plan, pass_by, plan_left, cells_left};
-ghost use Rattle.line_run.specs.LineRun.{Ran, line_by};
-ghost use Rattle.text_run.specs.LinePass.{went_by, Passed};
+ghost use Rattle.line_run.specs.LineRun.{Ran};
 ghost use Rattle.log_spec.specs.Log.{log_bytes};
 ghost use Rattle.writer.specs.Write.{fits, overwrite, put_answer, put_buffer, put_number, put_row};
 
 use cells::Cascade;
-use plan::Answer;
-use plan_tree::Plan;
-use writer::Put;
+use plan::Taken;
+use plan_tree::{Plan, Refused};
+use reader::Reader;
 
 // How many bytes hold the log of every text: 18 times 65,536, `log_bound` in `log_spec`.
 pub const LONGEST_LOG: usize = 1179648;
 
-// How a run goes on behind a line: what became of what it wrote, the place for the next line's, and whether a line may follow.
-#[derive(Drop)]
-pub struct Went {
-    pub put: Put,
-    pub at: usize,
-    pub more: bool,
-}
-
-// How the run goes on behind a line: the place for the next, and whether there may be one.
-fn behind_line(ended: bool, put: Put) -> Went
-    ensures { result ≡ went_by ended put }
-{
-    match put {
-        Put::Behind(z) => Went {
-            put,
-            at: z,
-            more: ended,
-        },
-        Put::Short => Went {
-            put,
-            at: 0,
-            more: false,
-        },
-    }
-}
-
-// A line, and how the run goes on behind it.
-fn proceed(
-    p: &Plan,
-    s: &mut Cascade,
-    bytes: &[u8],
-    number: usize,
-    ended: bool,
-    write: bool,
-    buffer: &mut [u8],
-    at: usize,
-) -> Went
-    ensures { Passed ended (line_by write p.now bytes.now number ended s.old buffer.old at) result s.new buffer.new }
-{
-    let put = line_run::line_of(p, s, bytes, number, ended, write, buffer, at);
-    behind_line(ended, put)
-}
-
-// The event lines from a place on, handed out one by one by a reader that holds the text.
+// The event lines from a place on, handed out one by one by a reader that holds the text. A `for` over lines would lose the last one's
+// missing LF, which is a refusal.
 fn events(
     text: &[u8],
     place: usize,
@@ -72,17 +30,16 @@ fn events(
     write: bool,
     buffer: &mut [u8],
     at: usize,
-) -> Put
+) -> Option<usize>
     ensures { Ran (events_by write p.now text.now (suc (length text.now)) (record { at = place; number = line }) s.old buffer.old at) result s.new buffer.new }
 {
-    let mut r = reader::new(text, place, line);
+    let mut lines = Reader::new(text, place, line);
     let mut z = at;
     loop {
-        let l = reader::next(&mut r);
-        let w = proceed(p, s, l.bytes, l.number, l.ended, write, buffer, z);
-        z = w.at;
-        if !w.more {
-            return w.put;
+        let l = lines.next();
+        z = line_run::line_of(p, s, l.bytes, l.number, l.ended, write, buffer, z)?;
+        if !l.ended {
+            return Some(z);
         }
     }
 }
@@ -90,33 +47,34 @@ fn events(
 // What follows the plan's own line: nothing behind a refused plan, and behind a taken one its events, from a fresh table.
 fn behind_plan(
     text: &[u8],
-    answer: Answer,
+    answer: Result<Taken, Refused>,
     p: &Plan,
     s: &mut Cascade,
     write: bool,
     buffer: &mut [u8],
     at: usize,
-) -> Put
-    ensures value { result ≡ (behind_plan write text.now answer p.now s.old buffer.old at).put }
-    ensures s_after { s.new ≡ (behind_plan write text.now answer p.now s.old buffer.old at).cells }
-    ensures buffer_after { buffer.new ≡ (behind_plan write text.now answer p.now s.old buffer.old at).buffer }
+) -> Option<usize>
+    ensures value { result ≡ (behind_plan write text.now (told_answer answer) p.now s.old buffer.old at).put }
+    ensures s_after { s.new ≡ (behind_plan write text.now (told_answer answer) p.now s.old buffer.old at).cells }
+    ensures buffer_after { buffer.new ≡ (behind_plan write text.now (told_answer answer) p.now s.old buffer.old at).buffer }
 {
     match answer {
-        Answer::Taken {
-            nodes: _,
-            hubs: _,
-            at: place,
-            line,
-        } => {
+        Ok(taken) => {
             requests::fresh(s);
-            events(text, place, line, p, s, write, buffer, at)
+            events(text, taken.at, taken.line, p, s, write, buffer, at)
         }
-        Answer::Refused { line: _, number: _ } => Put::Behind(at),
+        Err(_) => Some(at),
     }
 }
 
-// One pass over a text: its log's lines are written, or only measured; the place behind them, or Short at the first that doesn't fit.
-fn pass(text: &[u8], plan: &mut Plan, s: &mut Cascade, write: bool, buffer: &mut [u8]) -> Put
+// One pass over a text: its log's lines are written, or only measured; the place behind them, or None at the first that doesn't fit.
+fn pass(
+    text: &[u8],
+    plan: &mut Plan,
+    s: &mut Cascade,
+    write: bool,
+    buffer: &mut [u8],
+) -> Option<usize>
     ensures value { result ≡ (pass_by write text.now s.old buffer.old).put }
     ensures s_after { s.new ≡ (pass_by write text.now s.old buffer.old).cells }
     ensures buffer_after { buffer.new ≡ (pass_by write text.now s.old buffer.old).buffer }
@@ -124,10 +82,8 @@ fn pass(text: &[u8], plan: &mut Plan, s: &mut Cascade, write: bool, buffer: &mut
 {
     let text = log_lines::handed(text);
     let answer = plan::read(text, plan);
-    match log_lines::first_line(answer, write, buffer, 0) {
-        Put::Behind(z) => behind_plan(text, answer, plan, s, write, buffer, z),
-        Put::Short => Put::Short,
-    }
+    let z = log_lines::first_line(answer, write, buffer, 0)?;
+    behind_plan(text, answer, plan, s, write, buffer, z)
 }
 
 // Whether so many bytes hold the log of any text as long as this one: 18 for each byte that is read, and a refused plan's line has 33.
@@ -152,15 +108,12 @@ fn log_fits(text: &[u8], buffer: &mut [u8]) -> bool
     }
     let mut plan = [0u32; plan_tree::CELLS];
     let mut s = [0u32; cells::CELLS];
-    match pass(text, &mut plan, &mut s, false, buffer) {
-        Put::Behind(_) => true,
-        Put::Short => false,
-    }
+    pass(text, &mut plan, &mut s, false, buffer).is_some()
 }
 
-// The whole log of a text into a lent buffer: the place behind it, or Short where it doesn't fit, and then nothing that is
+// The whole log of a text into a lent buffer: the place behind it, or None where it doesn't fit, and then nothing that is
 // lent changes. A taken plan's tables stand in `plan`, and the cascade's in `s`; a refused plan leaves both as they were.
-pub fn run(text: &[u8], plan: &mut Plan, s: &mut Cascade, buffer: &mut [u8]) -> Put
+pub fn run(text: &[u8], plan: &mut Plan, s: &mut Cascade, buffer: &mut [u8]) -> Option<usize>
     ensures value { result ≡ put_answer buffer.old 0 (log_bytes text.now) }
     ensures buffer_after { buffer.new ≡ put_buffer buffer.old 0 (log_bytes text.now) }
     ensures result_value { put_number result ≡ put_row buffer.old 0 (log_bytes text.now) }
@@ -168,7 +121,7 @@ pub fn run(text: &[u8], plan: &mut Plan, s: &mut Cascade, buffer: &mut [u8]) -> 
     ensures s_after { s.new ≡ cells_left text.now s.old buffer.old }
 {
     if !log_fits(text, buffer) {
-        return Put::Short;
+        return None;
     }
     pass(text, plan, s, true, buffer)
 }
@@ -186,8 +139,5 @@ pub fn whole_log(
     ensures plan_after { plan.new ≡ leaves (reading (handed text.now)) plan.old }
     ensures s_after { s.new ≡ (pass_by true text.now s.old out.old).cells }
 {
-    match pass(text, plan, s, true, out) {
-        Put::Behind(end) => end,
-        Put::Short => 0,
-    }
+    pass(text, plan, s, true, out).unwrap_or(0)
 }

@@ -8,8 +8,8 @@ use Rattle.rules.specs.Control.{control}
 use Rattle.rules.specs.Run.{Entry, made}
 use Rattle.rules.specs.Words.{reserved, high_grants}
 use Rattle.rules.specs.Demand.{Unbroken, NextTurns, RunTo, Demand3}
-use Rattle.plan.specs.declared.Answer as plan
-use Rattle.plan.specs.declared.Answer.TheVariants.{Taken}
+use Rattle.plan.specs.Answer as plan
+use Rattle.plan.specs.Answer.{Taken}
 use Rattle.plan.specs.Tables.{plan_of}
 use Rattle.plan.specs.Reading.{reading}
 use Rattle.trials.specs.Row.{◌⟶◌}

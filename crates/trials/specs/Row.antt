@@ -5,8 +5,8 @@ use Rattle.rules.specs.Call.{Call, step, time, Answer, quiet}
 use Rattle.rules.specs.Plan.{Plan}
 use Rattle.rules.specs.Machine.{Machine}
 use Rattle.rules.specs.Run.{Entry, answers}
-use Rattle.plan.specs.declared.Answer as plan
-use Rattle.plan.specs.declared.Answer.TheVariants.{Taken, Refused}
+use Rattle.plan.specs.Answer as plan
+use Rattle.plan.specs.Answer.{Taken, Refused}
 use Rattle.plan.specs.Tables.{plan_of}
 use Rattle.plan.specs.Reading.{reading}
 

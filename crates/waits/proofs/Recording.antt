@@ -1,13 +1,13 @@
 -- The recorded times, one law a way through the tests.
 use Prim.Native.Nat.{ℕ, zero, suc, ◌+◌, ◌-◌, ◌/◌, ◌%◌, ◌≤◌, ◌<◌}
-use mathlib.Core.Path.{◌≡◌, refl, sym, ap, ◌∙◌}
+use mathlib.Core.Path.{◌≡◌, refl, ap, ◌∙◌}
 use mathlib.Core.Bool.{Bool, true, false}
 use mathlib.Core.List.{List}
 use native.Mathlib.Omega.{arith}
 use native.Mathlib.Numerals.{unary_clauses}
 use lib.Dec.{ltb, leb}
 use lib.ListN.{get_or, set}
-use borrow.Author.Tests.{lt-ltb, le-ltb, lt-leb, le-leb, leb-true, leb-false, ltb-true, ltb-false, eq-eqb, ne_eqb}
+use borrow.Author.Tests.{lt-ltb, le-ltb, leb-true, leb-false, ltb-true, ltb-false, eq-eqb, ne_eqb}
 use Rattle.std.specs.Prelude.{if◌then◌else◌}
 use Rattle.rules.specs.Plan.{most_nodes}
 use Rattle.rules.specs.Waits.{turns_normal}
@@ -15,6 +15,7 @@ use Rattle.cells.specs.Layout.{two_32, request_cell, latest_cell, since_cell, si
 use Rattle.cells.specs.Decode.{plan_in}
 use Rattle.cells.specs.Masks.{stands_in}
 use Rattle.cells.specs.Waits.{since_at, put_since, turn_cells, turn_nodes, turn_all, record_since, wait_at}
+use Rattle.cells.proofs.Within.{of_node, no_node}
 
 -- whether a frame's start makes a request normal, by its cell and the reservation's
 abbrev pub bits_above : ℕ → ℕ → ℕ
@@ -73,75 +74,43 @@ module _ (low high : ℕ) where
   turned_more s zero h = absurd (h refl)
   turned_more s (suc n) h = simp unary_clauses
 
-  pub turned_some : (s : List ℕ) (n most own x y : ℕ) (r : List ℕ) → (n ≡ 0 → ⊥)
+  pub turned_some : (s : List ℕ) (n most own x y : ℕ) → (n ≡ 0 → ⊥)
       → most ≡ bits_above (get_or s (latest_cell n) 0) 65536 → own ≡ bits_above (get_or s (request_cell n) 0) 131072
       → x ≡ (if ltb most own then low else get_or s (since_cell n) 0) → y ≡ (if ltb most own then high else get_or s (since_high_cell n) 0)
-      → r ≡ turn_nodes low high (n - 1) (set (set s (since_cell n) x) (since_high_cell n) y) → r ≡ turn_nodes low high n s
+      → turn_nodes low high (n - 1) (set (set s (since_cell n) x) (since_high_cell n) y) ≡ turn_nodes low high n s
   unfolding turn_cells put_since
-  turned_some s n most own x y r some m o l h e = e ∙ ap (turn_nodes low high (n - 1)) here ∙ turned_more s n some
+  turned_some s n most own x y some m o l h = ap (turn_nodes low high (n - 1)) here ∙ turned_more s n some
     where
       here : set (set s (since_cell n) x) (since_high_cell n) y ≡ turn_cells low high n s
       here = rw (l, h, m, o, turns_normal_lem (get_or s (latest_cell n) 0) (get_or s (request_cell n) 0))
 
-pub turned_all : (P s : List ℕ) (start n : ℕ) (r : List ℕ) → n ≡ (plan_in P).nodes → r ≡ turn_nodes (start % two_32) (start / two_32) n s → r ≡ turn_all P start s
-unfolding turn_all
-turned_all P s start n r e t = t ∙ ap (λ (m : ℕ). turn_nodes (start % two_32) (start / two_32) m s) e
-
--- whether a request stands in another's class
-module _ (old x : ℕ) where
-  pub both_high : 131072 ≤ x → leb 131072 old ≡ stands_in (leb 131072 x) old
-  both_high h = go (leb 131072 old) refl
-    where
-      go : (b : Bool) → leb 131072 old ≡ b → b ≡ stands_in (leb 131072 x) old
-      go true e =
-          let l = leb-true 131072 old e in
-          simp (le-leb 131072 x h, le-ltb old 65536 (omega arith), le-ltb old 131072 l)
-      go false e = simp (le-leb 131072 x h) (below (leb 65536 old) refl (leb-false 131072 old e))
-        where
-          below : (b : Bool) → leb 65536 old ≡ b → old < 131072 → false ≡ stands_in true old
-          below true f l = simp (le-ltb old 65536 (leb-true 65536 old f), lt-ltb old 131072 l)
-          below false f l = simp (lt-ltb old 65536 (leb-false 65536 old f))
-
-  pub none_stood : x < 131072 → old < 65536 → false ≡ stands_in (leb 131072 x) old
-  none_stood h l = simp (lt-leb 131072 x h, lt-ltb old 65536 l)
-
-  pub one_stood : x < 131072 → 65536 ≤ old → ltb old 131072 ≡ stands_in (leb 131072 x) old
-  one_stood h l = go (ltb old 131072) refl
-    where
-      go : (b : Bool) → ltb old 131072 ≡ b → b ≡ stands_in (leb 131072 x) old
-      go true e = simp (lt-leb 131072 x h, le-ltb old 65536 l, e)
-      go false e = simp (lt-leb 131072 x h, le-ltb old 65536 l, e)
+  pub turned_all : (P s : List ℕ) (start : ℕ) → low ≡ start % two_32 → high ≡ start / two_32
+      → turn_nodes low high (plan_in P).nodes s ≡ turn_all P start s
+  unfolding turn_all
+  turned_all P s start l h = rw (l, h)
 
 -- a request of node k is put up at t
 module _ (k x t : ℕ) (s : List ℕ) where
-  pub below_nodes : k < 1 → s ≡ record_since k x t s
+  pub no_request : ¬ ((1 ≤ k) × (k ≤ most_nodes)) → s ≡ record_since k x t s
   unfolding record_since
-  below_nodes l = simp (lt-ltb k 1 l)
-
-  pub past_nodes : most_nodes < k → s ≡ record_since k x t s
-  unfolding record_since
-  past_nodes l = simp (le-ltb k 1 (omega arith), lt-ltb most_nodes k l)
+  no_request other = no_node k _ s other
 
   module _ (low : 1 ≤ k) (up : k ≤ most_nodes) where
-    pub time_kept : (b : Bool) → b ≡ stands_in (leb 131072 x) (get_or s (request_cell k) 0) → b ≡ true → s ≡ record_since k x t s
+    pub time_kept : stands_in (leb 131072 x) (get_or s (request_cell k) 0) ≡ true → s ≡ record_since k x t s
     unfolding record_since
-    time_kept b e f = rw (le-ltb k 1 low, le-ltb most_nodes k up, sym e ∙ f)
+    time_kept e = rw (le-ltb k 1 low, le-ltb most_nodes k up, e)
 
-    pub time_new : (b : Bool) → b ≡ stands_in (leb 131072 x) (get_or s (request_cell k) 0) → b ≡ false
+    pub time_new : stands_in (leb 131072 x) (get_or s (request_cell k) 0) ≡ false
         → set (set s (since_cell k) (t % two_32)) (since_high_cell k) (t / two_32) ≡ record_since k x t s
     unfolding record_since put_since
-    time_new b e f = rw (le-ltb k 1 low, le-ltb most_nodes k up, sym e ∙ f)
+    time_new e = rw (le-ltb k 1 low, le-ltb most_nodes k up, e)
 
 -- the wait of node k at d
 module _ (d k : ℕ) (s : List ℕ) where
-  pub no_wait_below : k < 1 → 0 ≡ wait_at d k s
+  pub no_wait : ¬ ((1 ≤ k) × (k ≤ most_nodes)) → 0 ≡ wait_at d k s
   unfolding wait_at
-  no_wait_below l = simp (lt-ltb k 1 l)
-
-  pub no_wait_past : most_nodes < k → 0 ≡ wait_at d k s
-  unfolding wait_at
-  no_wait_past l = simp (le-ltb k 1 (omega arith), lt-ltb most_nodes k l)
+  no_wait other = no_node k _ 0 other
 
   pub waits : 1 ≤ k → k ≤ most_nodes → d - since_at k s ≡ wait_at d k s
   unfolding wait_at
-  waits low up = simp (le-ltb k 1 low, le-ltb most_nodes k up)
+  waits low up = of_node k _ 0 low up

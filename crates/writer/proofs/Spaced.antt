@@ -93,10 +93,3 @@ module _ (d : List ℕ) (at : ℕ) (s : List ℕ) where
       let l : at + length s + 1 ≡ at + length (s ++ (32 ∷ [])) = rw (length-append s (32 ∷ [])) (omega arith) in
       rw (overwrite_snoc d at s 32 (omega arith), l)
       (overwrite-append d at (s ++ (32 ∷ [])) (digits n) (omega arith) ∙ rw (append_snoc s 32 (digits n)))
-
-  -- the bracket and LF
-  pub write_end : at + length s + 2 ≤ length d → set (set (overwrite d at s) (at + length s) 41) (at + length s + 1) 10 ≡ overwrite d at (s ++ (41 ∷ 10 ∷ []))
-  write_end h =
-      let l : at + length s + 1 ≡ at + length (s ++ (41 ∷ [])) = rw (length-append s (41 ∷ [])) (omega arith) in
-      rw (overwrite_snoc d at s 41 (omega arith), l)
-      (overwrite_snoc d at (s ++ (41 ∷ [])) 10 (omega arith) ∙ rw (append_snoc s 41 (10 ∷ [])))

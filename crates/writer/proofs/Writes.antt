@@ -1,5 +1,7 @@
 -- A buffer with bytes written over its own: as long as before, one byte is a store, and bytes written
 -- behind bytes are both written at once. A pass that only measures answers the same. Assumes nothing.
+use Rattle.std.specs.Prelude.{Option, Some, None}
+use Rattle.std.specs.Option.{SomeIff, is_some}
 use mathlib.Core.Path.{◌≡◌, refl, sym, ap, ◌∙◌}
 use mathlib.Core.List.{List, [], ◌∷◌, ◌++◌, append_assoc, append-nil}
 use Prim.Native.Nat.{ℕ, suc, ◌+◌, ◌-◌, ◌^◌, ◌≤◌, ◌<◌}
@@ -11,13 +13,10 @@ use borrow.Author.Tests.{le-leb, lt-leb, leb-true, leb-false}
 use lib.ListN.{length, take, drop, set, length-append, take-append-drop}
 use lib.Seq.{take-length, take-take, take-append-le, length-paste, length_paste_head, set_split, append_snoc, take_at, drop-append-add, paste, drop-drop, drop_at, length-take-le}
 use Rattle.text.specs.Part.{part}
-use Rattle.text.specs.Number.{digits, digit_run, read_number, number_from, number_at}
+use Rattle.text.specs.Number.{digits, digit_run, read_number}
 use Rattle.writer.specs.Write.{overwrite, written, put_buffer, pass_buffer, answered, put_answer, put_number, numbered, put_row}
-use Rattle.writer.specs.declared.Put.{Put}
-use Rattle.writer.specs.declared.Put.TheVariants.{Behind, Short}
 use mathlib.Core.Bool.{Bool, true, false}
 use lib.Dec.{leb}
-use Rattle.text.specs.declared.Number.TheVariants.{Value}
 use Rattle.text.proofs.Numbers.{read-written}
 
 -- all of s copied is s written
@@ -73,18 +72,18 @@ overwrite-cons d i x s h =
     set-overwrite (overwrite d (i + 1) s) i x (rw (overwrite-length d (i + 1) s h) (omega arith)) ∙ overwrite-before d i (x ∷ []) s (omega arith)
 
 -- the two answers differ
-apart : (x : ℕ) → Short ≡ Behind x → ⊥
+apart : (x : ℕ) → None ≡ Some x → ⊥
 apart x h =
     let z : ◌≡◌ {A = ℕ} 0 1 = cc in
     omega arith
 
 -- where the bytes fit, and where they do not
 pub put-fits : (d : List ℕ) (at : ℕ) (s : List ℕ) → at + length s ≤ length d
-    → (put_answer d at s ≡ Behind (at + length s)) × (put_buffer d at s ≡ overwrite d at s)
+    → (put_answer d at s ≡ Some (at + length s)) × (put_buffer d at s ≡ overwrite d at s)
 unfolding put_answer put_buffer answered written
 put-fits d at s h = (rw (le-leb (at + length s) (length d) h), rw (le-leb (at + length s) (length d) h))
 
-pub put_short : (d : List ℕ) (at : ℕ) (s : List ℕ) → length d < at + length s → (put_answer d at s ≡ Short) × (put_buffer d at s ≡ d)
+pub put_short : (d : List ℕ) (at : ℕ) (s : List ℕ) → length d < at + length s → (put_answer d at s ≡ None) × (put_buffer d at s ≡ d)
 unfolding put_answer put_buffer answered written
 put_short d at s h = (rw (lt-leb (at + length s) (length d) h), rw (lt-leb (at + length s) (length d) h))
 
@@ -147,18 +146,23 @@ pass_append false d at s t h = refl
 
 -- how much of a room n bytes leave over
 module _ (n room : ℕ) where
-  pub rest_over : (left : ℕ) → n + left ≡ room → Behind left ≡ answered (leb n room) (room - n)
+  pub rest_over : (left : ℕ) → n + left ≡ room → Some left ≡ answered (leb n room) (room - n)
   unfolding answered
   rest_over left h =
       let e : left ≡ room - n = omega arith in
-      ap Behind e ∙ rw (le-leb n room (omega arith))
+      ap Some e ∙ rw (le-leb n room (omega arith))
 
-  pub rest_short : room < n → Short ≡ answered (leb n room) (room - n)
+  pub rest_short : room < n → None ≡ answered (leb n room) (room - n)
   unfolding answered
   rest_short h = rw (lt-leb n room h)
 
+  -- where what was taken of the room is the n bytes but for the last
+  pub rest_of : (r : Option ℕ) (left last : ℕ) → SomeIff r (last ≤ left) (left - last) → n + left ≡ room + last → r ≡ answered (leb n room) (room - n)
+  rest_of None left last h e = rest_short (omega (arith, h))
+  rest_of (Some x) left last h e = rest_over x (omega (arith, h.0, h.1))
+
   -- and what is told by it
-  pub rest_told : (r : Put) (x : ℕ) → r ≡ answered (leb n room) (room - n) → r ≡ Behind x → n + x ≡ room
+  pub rest_told : (r : Option ℕ) (x : ℕ) → r ≡ answered (leb n room) (room - n) → r ≡ Some x → n + x ≡ room
   rest_told r x p q = go (leb n room) refl
     where
       go : (t : Bool) → leb n room ≡ t → n + x ≡ room
@@ -169,7 +173,7 @@ module _ (n room : ℕ) where
           omega arith
       go false h = absurd (apart x (rest_short (leb-false n room h) ∙ sym p ∙ q))
 
-  pub rest_lacks : (r : Put) → r ≡ answered (leb n room) (room - n) → r ≡ Short → room < n
+  pub rest_lacks : (r : Option ℕ) → r ≡ answered (leb n room) (room - n) → r ≡ None → room < n
   rest_lacks r p q = go (leb n room) refl
     where
       go : (t : Bool) → leb n room ≡ t → room < n
@@ -178,6 +182,11 @@ module _ (n room : ℕ) where
           absurd (apart (room - n) (sym q ∙ p ∙ sym (rest_over (room - n) (omega arith))))
       go false h = leb-false n room h
 
+pub answered_some : (b : Bool) (x : ℕ) → is_some (answered b x) ≡ b
+unfolding answered
+answered_some true x = refl
+answered_some false x = refl
+
 -- document 01's number of the answer, by whether the bytes fit
 answer_number : (b : Bool) (behind : ℕ) → put_number (answered b behind) ≡ numbered b
 unfolding put_number answered numbered
@@ -185,15 +194,15 @@ answer_number true behind = refl
 answer_number false behind = refl
 
 -- the answer and the buffer with that number: what each public function promises
-number_told : (d : List ℕ) (at : ℕ) (s : List ℕ) (r : Put) → r ≡ put_answer d at s → put_number r ≡ put_row d at s
+number_told : (d : List ℕ) (at : ℕ) (s : List ℕ) (r : Option ℕ) → r ≡ put_answer d at s → put_number r ≡ put_row d at s
 unfolding put_answer put_row
 number_told d at s r p = ap put_number p ∙ answer_number (leb (at + length s) (length d)) (at + length s)
 
-pub put_told_lem : (d : List ℕ) (at : ℕ) (s : List ℕ) (r : Put) (e : List ℕ) → r ≡ put_answer d at s → e ≡ put_buffer d at s
+pub put_told_lem : (d : List ℕ) (at : ℕ) (s : List ℕ) (r : Option ℕ) (e : List ℕ) → r ≡ put_answer d at s → e ≡ put_buffer d at s
     → (r ≡ put_answer d at s) × (e ≡ put_buffer d at s) × (put_number r ≡ put_row d at s)
 put_told_lem d at s r e p q = (p, q, number_told d at s r p)
 
-pub pass_told : (w : Bool) (d : List ℕ) (at : ℕ) (s : List ℕ) (r : Put) (e : List ℕ) → r ≡ put_answer d at s → e ≡ pass_buffer w d at s
+pub pass_told : (w : Bool) (d : List ℕ) (at : ℕ) (s : List ℕ) (r : Option ℕ) (e : List ℕ) → r ≡ put_answer d at s → e ≡ pass_buffer w d at s
     → (r ≡ put_answer d at s) × (e ≡ pass_buffer w d at s) × (put_number r ≡ put_row d at s)
 pass_told w d at s r e p q = (p, q, number_told d at s r p)
 
@@ -203,8 +212,7 @@ part-overwrite d at s h = ap (drop at) (take-overwrite d at s h) ∙ drop_at (ta
 
 -- a number that was written is read back
 pub number_back : (d : List ℕ) (at n : ℕ) → at ≤ length d → n < 10 ^ 16
-    → number_at (overwrite d at (digits n)) at (at + length (digits n)) ≡ Value n (at + length (digits n))
-unfolding number_at number_from digit_run
+    → read_number (part (overwrite d at (digits n)) at (at + length (digits n))) ≡ some (n, length (digits n))
+unfolding digit_run
 number_back d at n h small =
-    let e : read_number (digits n) ≡ some (n, length (digits n)) = ap read_number (sym (append-nil (digits n))) ∙ read-written n [] small refl in
-    rw (part-overwrite d at (digits n) h, e)
+    ap read_number (part-overwrite d at (digits n) h ∙ sym (append-nil (digits n))) ∙ read-written n [] small refl

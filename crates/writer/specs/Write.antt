@@ -1,8 +1,6 @@
 -- Writing into a lent buffer at a place: all of the bytes, or none.
-use Rattle.std.specs.Prelude.{ℕ, ◌+◌, Bool, true, false, List, [], ◌∷◌, ◌++◌, leb, length, take, drop}
+use Rattle.std.specs.Prelude.{ℕ, ◌+◌, Bool, true, false, List, [], ◌∷◌, ◌++◌, leb, length, take, drop, Option, Some, None}
 use Rattle.text.specs.Form.{draw_form}
-use Rattle.writer.specs.declared.Put.{Put}
-use Rattle.writer.specs.declared.Put.TheVariants.{Behind, Short}
 
 -- whether the bytes fit in the buffer from a place on
 abbrev pub fits : List ℕ → ℕ → List ℕ → Bool
@@ -25,18 +23,18 @@ unfoldable pub pass_buffer : Bool → List ℕ → ℕ → List ℕ → List ℕ
 pass_buffer true buffer at bytes = put_buffer buffer at bytes
 pass_buffer false buffer at bytes = buffer
 
-unfoldable pub answered : Bool → ℕ → Put
-answered true behind = Behind behind
-answered false behind = Short
+unfoldable pub answered : Bool → ℕ → Option ℕ
+answered true behind = Some behind
+answered false behind = None
 
 -- the answer: the place behind what was written, or that the buffer is too short
-unfoldable pub put_answer : List ℕ → ℕ → List ℕ → Put
+unfoldable pub put_answer : List ℕ → ℕ → List ℕ → Option ℕ
 put_answer buffer at bytes = answered (fits buffer at bytes) (at + length bytes)
 
 -- document 01's number for each answer
-unfoldable pub put_number : Put → ℕ
-put_number (Behind place) = 0
-put_number Short = 18
+unfoldable pub put_number : Option ℕ → ℕ
+put_number (Some place) = 0
+put_number None = 18
 
 -- the number that writing gives: 18 where the lent buffer is shorter than what is to be written, and 0 where that is written
 unfoldable pub numbered : Bool → ℕ

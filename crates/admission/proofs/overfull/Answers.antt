@@ -11,48 +11,6 @@ use Rattle.admission.proofs.ReserveRows.{limits_kept}
 use Rattle.admission.proofs.Shares.{row17-cells}
 use Rattle.admission.proofs.overfull.Goals as goal
 
-pub overflow_sub-at : goal.overflow_sub-at
-overflow_sub-at c =
-    let a = c.args in
-    -- its node is one of the plan, and its figures fit a half of a cell each
-    let kept = limits_kept a.p.now a.k a.n a.b c.requires in
-    omega (arith, kept.node)
-
-pub overflow_add-at : goal.overflow_add-at
-overflow_add-at c =
-    let a = c.args in
-    -- its node is one of the plan, and its figures fit a half of a cell each
-    let kept = limits_kept a.p.now a.k a.n a.b c.requires in
-    omega (arith, kept.node)
-
-pub offset_bounds-s-at : goal.offset_bounds-s-at
-offset_bounds-s-at c =
-    let a = c.args in
-    -- its node is one of the plan, and its figures fit a half of a cell each
-    let kept = limits_kept a.p.now a.k a.n a.b c.requires in
-    omega (arith, kept.node)
-
-pub bounds-s-at : goal.bounds-s-at
-bounds-s-at c =
-    let a = c.args in
-    -- its node is one of the plan, and its figures fit a half of a cell each
-    let kept = limits_kept a.p.now a.k a.n a.b c.requires in
-    omega (arith, kept.node)
-
-pub overflow_cast-n : goal.overflow_cast-n
-overflow_cast-n c =
-    let a = c.args in
-    -- its node is one of the plan, and its figures fit a half of a cell each
-    let kept = limits_kept a.p.now a.k a.n a.b c.requires in
-    omega (arith, kept.packets)
-
-pub overflow_cast-b : goal.overflow_cast-b
-overflow_cast-b c =
-    let a = c.args in
-    -- its node is one of the plan, and its figures fit a half of a cell each
-    let kept = limits_kept a.p.now a.k a.n a.b c.requires in
-    omega (arith, kept.bits)
-
 pub returns : goal.returns
 unfolding plan_of
 returns c =

@@ -1,43 +1,17 @@
--- `kinds` meets its contract: the answer from the start is the answer from call i on.
-use Prim.Native.Nat.{◌-◌, ◌*◌}
-use mathlib.Core.Path.{sym, ap, ◌∙◌}
-use native.Mathlib.Omega.{arith}
-use borrow.Author.Tests.{le-leb, lt-leb}
-use lib.ListN.{get_or}
-use Rattle.call_list.specs.Table.{count_of, kinds_from}
-use Rattle.call_list.proofs.Loops.{kinds_here, kinds_done}
+-- `kinds` meets its contract: each call's kind is tested in its turn.
+use Rattle.std.proofs.Common.{get_or, sym, ◌∙◌, ◌*◌, refl, arith, rules, tests}
+use Rattle.std.proofs.lemmas.Iterator.{YieldsList-from_range, serves_from_Range}
+use Rattle.std.proofs.lemmas.Iterator.Search.{all_from_yields_List}
+use Rattle.call_list.specs.Table.{count_of, is_kind}
+use Rattle.call_list.proofs.Loops.{kinds_all}
 use Rattle.call_list.proofs.kinds.Goals as goal
 
-pub loop-i-init : goal.loop-i-init
-loop-i-init c =
-    let n = count_of c.args.calls.now in
-    (omega arith, ap (kinds_from c.args.calls.now 0) {y = n - 0} (omega arith))
-
-pub returns-then-kind-lt1 : goal.returns-then-kind-lt1
-returns-then-kind-lt1 c =
-    let cs = c.args.calls.now in
-    sym
-    (c.loop-i.invariant.1 ∙ kinds_here cs (count_of cs) c.loop-i.i (omega arith)
-    ∙ rw (lt-leb 1 (get_or cs (c.loop-i.i * 5) 0) (omega arith)))
-
-pub returns-then-kind-gt6 : goal.returns-then-kind-gt6
-returns-then-kind-gt6 c =
-    let cs = c.args.calls.now in
-    let kind = get_or cs (c.loop-i.i * 5) 0 in
-    sym
-    (c.loop-i.invariant.1 ∙ kinds_here cs (count_of cs) c.loop-i.i (omega arith)
-    ∙ rw (le-leb 1 kind (omega arith), lt-leb kind 6 (omega arith)))
-
-pub loop-i-preserved : goal.loop-i-preserved
-loop-i-preserved c =
-    let cs = c.args.calls.now in
-    let kind = get_or cs (c.loop-i.i * 5) 0 in (
-      omega arith,
-      c.loop-i.invariant.1 ∙ kinds_here cs (count_of cs) c.loop-i.i (omega arith)
-          ∙ rw (le-leb 1 kind (omega arith), le-leb kind 6 (omega arith)),
-    )
+pub all-requires : goal.all-requires
+all-requires c = record { can = tt; finite = tt; callable = serves_from_Range (λ x q k. search (rules, tests)) (λ x low high. search rules) }
 
 pub returns : goal.returns
 returns c =
     let cs = c.args.calls.now in
-    sym (c.loop-i.invariant.1 ∙ kinds_done cs (count_of cs) c.loop-i.i (omega arith))
+    all_from_yields_List (λ i. is_kind (get_or cs (i * 5) 0)) _ _ c.all.result c.all.ensures.ran
+    (YieldsList-from_range 0 (count_of cs) (count_of cs) refl (omega arith)) (λ x b q k. search (rules, tests))
+    ∙ sym (kinds_all cs 0 (count_of cs))

@@ -1,4 +1,4 @@
-use Prim.Native.Nat.{◌-◌, ◌≤◌}
+use Prim.Native.Nat.{◌-◌}
 use mathlib.Core.Path.{◌≡◌}
 use mathlib.Core.Bool.{true}
 use lib.ListN.{length}
@@ -7,8 +7,8 @@ use Rattle.call_list.proofs.list.Given as goal
 
 abbrev pub invariant-loop-i : goal.invariant-loop-i
 invariant-loop-i l =
-    (l.count ≡ count_of l.calls) × (l.i ≤ l.count) × (length l.answers ≡ length l.initial.answers) × (kinds_from l.calls l.i (count_of l.calls - l.i) ≡ true)
-    × (list_from l.p l.calls 0 (count_of l.calls) l.initial.s l.initial.answers ≡ list_from l.p l.calls l.i (count_of l.calls - l.i) l.s l.answers)
-
-abbrev pub decreases-loop-i : goal.decreases-loop-i
-decreases-loop-i l = l.count - l.i
+    record {
+      room : length l.answers ≡ length l.initial.answers;
+      kinds : kinds_from l.calls l.i (count_of l.calls - l.i) ≡ true;
+      made : list_from l.p l.calls 0 (count_of l.calls) l.initial.s l.initial.answers ≡ list_from l.p l.calls l.i (count_of l.calls - l.i) l.s l.answers;
+    }

@@ -2,4 +2,4 @@
 use Rattle.control.proofs.point.Goals as goal
 
 pub returns : goal.returns
-returns c = rw c.pointer_cell-at.ensures.value
+returns c = rw c.pointer-at.ensures.value

@@ -23,9 +23,9 @@ pub returns : goal.returns
 returns c =
     let a = c.args in
     record {
-      s_value = class_changed a.p.now a.high a.s.now (λ f. c.if-s-high.false (f ∙ sym (byte_digit a.high))) c.nearest-hub.result
-          c.climb_to-moves.result c.nearest-hub.ensures (omega (arith, c.climb_to-moves.ensures.value))
+      s_value = class_changed a.p.now a.high a.s.now (λ f. c.if-s-high.false (f ∙ sym (byte_digit a.high))) c.nearest-near.result
+          c.saturating_sub-moves.result c.nearest-near.ensures (omega (arith, c.saturating_sub-moves.ensures))
           ∙ ap₂ (λ (g n : ℕ). walk_by a.p.now a.high most_looks g n a.s.now) (omega (arith, ap (λ (t : Turn). t.hub) c.nobody-2.ensures))
           (omega (arith, ap (λ (t : Turn). t.moves) c.nobody-2.ensures));
-      moves_bound = omega (arith, ap (λ (t : Turn). t.moves) c.nobody-2.ensures, c.climb_to-moves.ensures.upper_bound);
+      moves_bound = omega (arith, ap (λ (t : Turn). t.moves) c.nobody-2.ensures);
     }

@@ -1,78 +1,66 @@
--- `walk` meets its contract. The loop's invariant: the walk from the start is the walk from here, with the looks that are left.
--- Each return is a law of Walks, by what the look answered. The measure is the looks that are left.
-use borrow.Author.Tests.{ltb-true, ltb-false}
-use mathlib.Core.Path.{sym, ap, ◌∙◌}
-use mathlib.Core.Logic.{⊎_elim}
-use Prim.Native.Nat.{ℕ}
+-- `walk` meets its contract. Each return is a law of Walks, by what the look answered.
+use mathlib.Core.Path.{refl, sym, ◌∙◌}
+use Prim.Native.Nat.{◌-◌, ◌+◌}
 use native.Mathlib.Omega.{arith}
-use Rattle.cells.specs.Turns.{walk_by}
-use Rattle.control.proofs.Walks.{turned, walk_over, walk_no_hub, walk_beyond, walk_grants, walk_passes, walk_rounds, walk_stops}
+use Rattle.rules.specs.Control.{most_looks}
+use Rattle.control.proofs.Walks.{turned, walk_over, walk_beyond, walk_grants, walk_passes, walk_rounds, walk_stops}
 use Rattle.control.proofs.walk.Goals as goal
+use Rattle.control.proofs.walk.Goals.{in-Pass, in-Round}
 
-pub loop-looks-init : goal.loop-looks-init
-loop-looks-init c =
-    let a = c.args in
-    (ap (λ (n : ℕ). walk_by a.p.now a.high n a.from a.before a.s.now) (omega arith), omega arith)
+pub loop-init : goal.loop-init
+loop-init c = record { same = refl; few = omega arith }
 
-pub returns-then-g-lt1 : goal.returns-then-g-lt1
-returns-then-g-lt1 c =
+pub returns-in_default : goal.returns-in_default
+returns-in_default c =
     let a = c.args in
-    let o = c.loop-looks in
-    let some = c.loop-looks-test.true in
-    let e =
-    turned (o.invariant.0
-    ∙ ⊎_elim (λ none. walk_no_hub a.p.now a.high o.looks o.g o.moves o.s some (omega arith))
-    (λ far. walk_beyond a.p.now a.high o.looks o.g o.moves o.s some (omega arith) (omega (arith, ltb-true))) c.then-g-lt1.either) in
+    let o = c.loop in
+    let e = turned (o.invariant.same ∙ walk_beyond a.p.now a.high (most_looks - o.counter) o.g o.moves o.s (most_looks - (o.counter + 1)) (omega arith) c.in_default.ensures) in
     record { value = c.nobody.ensures ∙ e.0; s_after = e.1 }
-
-pub look-requires : goal.look-requires
-look-requires c = (omega arith, omega (arith, ltb-false))
 
 pub returns-in-Node : goal.returns-in-Node
 returns-in-Node c =
     let a = c.args in
-    let o = c.loop-looks in
+    let o = c.loop in
     let e =
-    turned (o.invariant.0
-    ∙ walk_grants a.p.now a.high o.looks o.g o.moves o.s c.loop-looks-test.true (omega arith)
-    (omega (arith, ltb-false)) c.look.new.s c.in-Node.ensures.s_after c.in-Node.k (sym c.in-Node.ensures.value)) in
+    turned (o.invariant.same
+    ∙ walk_grants a.p.now a.high (most_looks - o.counter) o.g o.moves o.s (most_looks - (o.counter + 1)) (omega arith) (omega arith) (omega arith)
+    c.look.new.s (rw c.in-Some.ensures at c.in-Node.ensures.s_after) c.in-Node.k (sym (rw c.in-Some.ensures at c.in-Node.ensures.value))) in
     record { value = e.0; s_after = e.1 }
 
 pub overflow_add-moves : goal.overflow_add-moves
 overflow_add-moves c = omega (arith, c.requires)
 
-pub loop-looks-preserved-in-Pass : goal.loop-looks-preserved-in-Pass
-loop-looks-preserved-in-Pass c =
+pub loop-preserved : goal.loop-preserved
+loop-preserved c =
     let a = c.args in
-    let o = c.loop-looks in (
-      o.invariant.0
-          ∙ walk_passes a.p.now a.high o.looks o.g o.moves o.s c.loop-looks-test.true (omega arith)
-          (omega (arith, ltb-false)) c.look.new.s c.in-Pass.ensures.s_after c.in-Pass.h (sym c.in-Pass.ensures.value),
-      omega arith,
-    )
-
-pub loop-looks-preserved : goal.loop-looks-preserved
-loop-looks-preserved c =
-    let a = c.args in
-    let o = c.loop-looks in (
-      o.invariant.0
-          ∙ walk_rounds a.p.now a.high o.looks o.g o.moves o.s c.loop-looks-test.true (omega arith)
-          (omega (arith, ltb-false)) c.look.new.s c.in-Round.ensures.s_after (sym c.in-Round.ensures.value),
-      omega arith,
-    )
+    let o = c.loop in
+    elim c.match-look.branch [
+      | in-Pass w ↦ record {
+        same = rw (w.g-is, w.moves-is) (o.invariant.same
+            ∙ walk_passes a.p.now a.high (most_looks - o.counter) o.g o.moves o.s (most_looks - (o.counter + 1)) (omega arith) (omega arith) (omega arith)
+            c.look.new.s (rw c.in-Some.ensures at w.in-Pass.ensures.s_after) w.in-Pass.h (sym (rw c.in-Some.ensures at w.in-Pass.ensures.value)));
+        few = omega arith;
+      }
+      | in-Round w ↦ record {
+        same = rw (w.g-is, w.moves-is) (o.invariant.same
+            ∙ walk_rounds a.p.now a.high (most_looks - o.counter) o.g o.moves o.s (most_looks - (o.counter + 1)) (omega arith) (omega arith) (omega arith)
+            c.look.new.s (rw c.in-Some.ensures at w.in-Round.ensures.s_after) (sym (rw c.in-Some.ensures at w.in-Round.ensures.value)));
+        few = omega arith;
+      }
+    ]
 
 pub returns-in-Stop : goal.returns-in-Stop
 returns-in-Stop c =
     let a = c.args in
-    let o = c.loop-looks in
-    let e = turned (o.invariant.0
-    ∙ walk_stops a.p.now a.high o.looks o.g o.moves o.s c.loop-looks-test.true (omega arith)
-    (omega (arith, ltb-false)) c.look.new.s c.in-Stop.ensures.s_after (sym c.in-Stop.ensures.value)) in
+    let o = c.loop in
+    let e = turned (o.invariant.same
+    ∙ walk_stops a.p.now a.high (most_looks - o.counter) o.g o.moves o.s (most_looks - (o.counter + 1)) (omega arith) (omega arith) (omega arith)
+    c.look.new.s (rw c.in-Some.ensures at c.in-Stop.ensures.s_after) (sym (rw c.in-Some.ensures at c.in-Stop.ensures.value))) in
     record { value = c.nobody-in-Stop.ensures ∙ e.0; s_after = e.1 }
 
 pub returns : goal.returns
 returns c =
     let a = c.args in
-    let o = c.loop-looks in
-    let e = turned (o.invariant.0 ∙ walk_over a.p.now a.high o.looks o.g o.moves o.s c.loop-looks-test.false) in
+    let o = c.loop in
+    let e = turned (o.invariant.same ∙ walk_over a.p.now a.high (most_looks - o.counter) o.g o.moves o.s (omega arith)) in
     record { value = c.nobody-2.ensures ∙ e.0; s_after = e.1 }

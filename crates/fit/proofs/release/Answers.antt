@@ -12,23 +12,12 @@ use Rattle.cells.specs.Layout.{half}
 use Rattle.cells.specs.Decode.{plan_in}
 use Rattle.fit.proofs.OnePass.{so_far, costs, none_yet, no_cost, cost_is, one_more}
 use Rattle.fit.proofs.release.Goals as goal
+use Rattle.fit.proofs.release.Goals.{then-better, else-better}
 
 pub loop-j-init : goal.loop-j-init
 loop-j-init c =
     let a = c.args in
-    (c.nodes-nodes.ensures, omega arith, none_yet a.p.now a.s.now a.room a.k a.needed, no_cost a.p.now a.s.now a.room a.k a.needed)
-
-pub overflow_cast-share : goal.overflow_cast-share
-overflow_cast-share c = omega (arith, c.loop-j.invariant.0)
-
-pub overflow_add-share : goal.overflow_add-share
-overflow_add-share c = omega (arith, c.loop-j.invariant.0)
-
-pub offset_bounds-s-j : goal.offset_bounds-s-j
-offset_bounds-s-j c = omega (arith, c.loop-j.invariant.0)
-
-pub bounds-s-j : goal.bounds-s-j
-bounds-s-j c = omega (arith, c.loop-j.invariant.0)
+    (none_yet a.p.now a.s.now a.room a.k a.needed, no_cost a.p.now a.s.now a.room a.k a.needed)
 
 -- what the test of node j + 1 makes of the best one so far is the best one of one node more
 tested : (P s : List ℕ) (room k needed j best least : ℕ) {load : ℕ} {is_better : Bool} → j < (plan_in P).nodes
@@ -43,35 +32,27 @@ tested P s room k needed j best least some_node is_best is_least own better =
     own
     ∙ one_more P s room k needed j some_node is_best is_least
 
-pub loop-j-preserved-then-better : goal.loop-j-preserved-then-better
-loop-j-preserved-then-better c =
-    let a = c.args in
-    let l = c.loop-j in
-    let inv = l.invariant in
-    let some_node : l.j < (plan_in a.p.now).nodes = omega (arith, inv.0, c.loop-j-test.true) in (
-      inv.0,
-      omega arith,
-      ap (λ (b : Bool). if b then l.j + 1 else l.best) (sym c.if-better.true)
-          ∙ tested a.p.now a.s.now a.room a.k a.needed l.j l.best l.least some_node inv.2 inv.3 c.load-load.ensures c.better.ensures,
-      c.load-load.ensures ∙ cost_is a.p.now a.s.now a.room a.k a.needed l.j some_node,
-    )
-
 pub loop-j-preserved : goal.loop-j-preserved
 loop-j-preserved c =
     let a = c.args in
     let l = c.loop-j in
     let inv = l.invariant in
-    let some_node : l.j < (plan_in a.p.now).nodes = omega (arith, inv.0, c.loop-j-test.true) in (
-      inv.0,
-      omega arith,
-      ap (λ (b : Bool). if b then l.j + 1 else l.best) (sym c.if-better.false)
-          ∙ tested a.p.now a.s.now a.room a.k a.needed l.j l.best l.least some_node inv.2 inv.3 c.load-load.ensures c.better.ensures,
-      inv.3,
-    )
+    let some_node : l.j < (plan_in a.p.now).nodes = omega (arith, c.nodes-j-end.ensures, c.loop-j-test.true) in
+    let next = tested a.p.now a.s.now a.room a.k a.needed l.j l.best l.least some_node inv.0 inv.1 c.load-load.ensures c.better.ensures in
+    elim c.if-better.branch [
+      | then-better w ↦ (
+        w.best-is ∙ ap (λ (b : Bool). if b then l.j + 1 else l.best) (sym w.if-better.true) ∙ next,
+        w.least-is ∙ c.load-load.ensures ∙ cost_is a.p.now a.s.now a.room a.k a.needed l.j some_node ∙ ap (costs a.p.now a.s.now a.room a.k a.needed) (sym w.best-is),
+      )
+      | else-better w ↦ (
+        w.best-is ∙ ap (λ (b : Bool). if b then l.j + 1 else l.best) (sym w.if-better.false) ∙ next,
+        w.least-is ∙ inv.1 ∙ ap (costs a.p.now a.s.now a.room a.k a.needed) (sym w.best-is),
+      )
+    ]
 
 pub returns : goal.returns
 returns c =
     let a = c.args in
     let l = c.loop-j in
-    let all : l.j ≡ (plan_in a.p.now).nodes = omega (arith, l.invariant.0, c.loop-j-test.false) in
-    l.invariant.2 ∙ ap (so_far a.p.now a.s.now a.room a.k a.needed) all
+    let all : l.j ≡ (plan_in a.p.now).nodes = omega (arith, c.nodes-j-end.ensures) in
+    l.invariant.0 ∙ ap (so_far a.p.now a.s.now a.room a.k a.needed) all

@@ -1,9 +1,20 @@
 -- `frames::start_frame` meets its contract: the nodes' cells, and then the masks.
-use Rattle.frames.proofs.Starting.{starts_all}
+use Prim.Native.Nat.{ℕ}
+use mathlib.Core.Path.{ap, ◌∙◌}
+use native.Mathlib.Omega.{arith}
+use Rattle.cells.specs.Frames.{start_nodes}
+use Rattle.frames.proofs.Starting.{starts_none, starts_some, starts_all}
 use Rattle.frames.proofs.start_frame.Goals as goal
+
+pub loop-at-init : goal.loop-at-init
+loop-at-init c = ap (λ (n : ℕ). start_nodes n c.args.s.now) c.nodes-at.ensures
+
+pub loop-at-preserved : goal.loop-at-preserved
+loop-at-preserved c =
+    let l = c.loop-at in
+    starts_some l.s l.at _ (λ e. omega arith) c.reclassed.ensures ∙ l.invariant
 
 pub returns : goal.returns
 returns c =
-    let a = c.args in
-    starts_all a.p.now a.s.now c.nodes.result c.start_nodes.new.s _
-    c.nodes.ensures c.start_nodes.ensures c.build.ensures
+    let l = c.loop-at in
+    starts_all c.args.p.now c.args.s.now l.s _ (starts_none l.s l.at (omega arith) ∙ l.invariant) c.build.ensures

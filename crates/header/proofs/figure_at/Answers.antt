@@ -1,24 +1,35 @@
 -- `figure_at` meets its contract, by the laws of LineLaws: one a return.
-use mathlib.Core.Path.{sym, ◌∙◌}
-use Rattle.header.proofs.LineLaws.{figure_numbers, figure-none, figure_unended, figure_done}
+use mathlib.Core.Path.{◌≡◌, sym, ap, ◌∙◌}
+use Rattle.plan_tree.specs.declared.Refused.{Refused}
+use Rattle.plan_tree.specs.Part.{Found, row_number}
+use Rattle.header.specs.Figure.{Not}
+use Rattle.header.specs.Lines.{figure_at, figure_on}
+use Rattle.header.proofs.LineLaws.{refused, figure_none, figure_some}
 use Rattle.header.proofs.figure_at.Goals as goal
 
-pub returns-in-Numbers : goal.returns-in-Numbers
-returns-in-Numbers c =
+pub returns-in_err-line : goal.returns-in_err-line
+unfolding figure_at
+returns-in_err-line c =
     let a = c.args in
-    c.in_range.ensures ∙ figure_numbers a.text.now a.c a.word.now a.low a.high c.in-Line.start c.in-Line.end c.in-Line.number c.in-Line.next (sym c.in-Line.ensures) c.in-Numbers.x c.in-Numbers.field-1 c.in-Numbers.field-2 c.in-Numbers.field-3 (sym c.in-Numbers.ensures)
+    refused _ _ c.from_residual.ensures.1 ∙ ap (λ (f : Found). figure_on f a.word.now a.low a.high) c.in_err-line.ensures
 
-pub returns-in-NoForm : goal.returns-in-NoForm
-returns-in-NoForm c =
+pub returns-in_err-x : goal.returns-in_err-x
+unfolding figure_at
+returns-in_err-x c =
     let a = c.args in
-    figure-none a.text.now a.c a.word.now a.low a.high c.in-Line.start c.in-Line.end c.in-Line.number c.in-Line.next (sym c.in-Line.ensures) (sym c.in-NoForm.ensures)
+    let l = c.in_ok-line.line in
+    let e = rw c.in_err-x.ensures.ok_part at c.in_err-x.ensures.value in
+    let same : c.in_err-x.field-0.0 ≡ c.new-other.result = cc in
+    refused _ _ c.from_residual-in_err-x.ensures.1
+    ∙ ap (λ (r : Refused). Not r.line (row_number r.row)) (same ∙ c.new-other.ensures)
+    ∙ figure_none l.number l.next a.low a.high _ (sym c.in_err-x.ensures.ok_part ∙ c.form_at.ensures)
+    ∙ ap (λ (f : Found). figure_on f a.word.now a.low a.high) c.in_ok-line.ensures
 
-pub returns-in-Unended : goal.returns-in-Unended
-returns-in-Unended c =
+pub returns : goal.returns
+unfolding figure_at
+returns c =
     let a = c.args in
-    figure_unended a.text.now a.c a.word.now a.low a.high c.in-Unended.start c.in-Unended.end c.in-Unended.number (sym c.in-Unended.ensures)
-
-pub returns-in-Done : goal.returns-in-Done
-returns-in-Done c =
-    let a = c.args in
-    figure_done a.text.now a.c a.word.now a.low a.high c.in-Done.number (sym c.in-Done.ensures)
+    let l = c.in_ok-line.line in
+    c.in_range.ensures
+    ∙ figure_some l.number l.next a.low a.high _ _ (sym c.in_ok-x.ensures.ok_part ∙ c.form_at.ensures)
+    ∙ ap (λ (f : Found). figure_on f a.word.now a.low a.high) c.in_ok-line.ensures

@@ -1,24 +1,29 @@
 -- `optional_at` meets its contract, by the laws of LineLaws: one a return.
-use mathlib.Core.Path.{sym}
-use Rattle.header.proofs.LineLaws.{optional_says, optional-none, optional_unended, optional_done}
+use mathlib.Core.Path.{ap, ◌∙◌}
+use Rattle.plan_tree.specs.Part.{Found}
+use Rattle.header.specs.Lines.{optional_at, optional_on}
+use Rattle.header.proofs.LineLaws.{optional_none, optional_some, no_line, a_line}
 use Rattle.header.proofs.optional_at.Goals as goal
 
-pub returns-in-Numbers : goal.returns-in-Numbers
-returns-in-Numbers c =
+pub returns-in_err-line : goal.returns-in_err-line
+unfolding optional_at
+returns-in_err-line c =
     let a = c.args in
-    optional_says a.text.now a.c a.word.now a.count c.in-Line.start c.in-Line.end c.in-Line.number c.in-Line.next (sym c.in-Line.ensures) c.in-Numbers.x c.in-Numbers.field-1 c.in-Numbers.field-2 c.in-Numbers.field-3 (sym c.in-Numbers.ensures)
+    c.from_residual.ensures ∙ no_line _ a.word.now a.count c.in_err-line.ensures.value ∙ ap (λ (f : Found). optional_on f a.word.now a.count) c.line_at.ensures
 
-pub returns-in-NoForm : goal.returns-in-NoForm
-returns-in-NoForm c =
+pub returns-in_err-x : goal.returns-in_err-x
+unfolding optional_at
+returns-in_err-x c =
     let a = c.args in
-    optional-none a.text.now a.c a.word.now a.count c.in-Line.start c.in-Line.end c.in-Line.number c.in-Line.next (sym c.in-Line.ensures) (sym c.in-NoForm.ensures)
+    let l = c.in_ok-line.line in
+    c.from_residual-in_err-x.ensures
+    ∙ optional_none l.number l.next _ c.in_err-x.ensures
+    ∙ ap (λ (f : Found). optional_on f a.word.now a.count) (a_line _ l c.in_ok-line.ensures.value ∙ c.line_at.ensures)
 
-pub returns-in-Unended : goal.returns-in-Unended
-returns-in-Unended c =
+pub returns : goal.returns
+unfolding optional_at
+returns c =
     let a = c.args in
-    optional_unended a.text.now a.c a.word.now a.count c.in-Unended.start c.in-Unended.end c.in-Unended.number (sym c.in-Unended.ensures)
-
-pub returns-in-Done : goal.returns-in-Done
-returns-in-Done c =
-    let a = c.args in
-    optional_done a.text.now a.c a.word.now a.count c.in-Done.number (sym c.in-Done.ensures)
+    let l = c.in_ok-line.line in
+    optional_some l.number l.next _ _ c.in_ok-x.ensures
+    ∙ ap (λ (f : Found). optional_on f a.word.now a.count) (a_line _ l c.in_ok-line.ensures.value ∙ c.line_at.ensures)

@@ -1,46 +1,25 @@
 -- `ask` meets its contract: the clock comes to t, and the request stands.
-use mathlib.Core.Path.{ap, ◌∙◌}
-use native.Mathlib.Omega.{arith}
+use Rattle.std.proofs.Common.{rules}
+use mathlib.Core.Path.{◌≡◌, refl, ap, ◌∙◌}
 use Rattle.rules.specs.Call.{ask}
 use Rattle.cells.specs.Layout.{class_of}
+use Rattle.cells.specs.Step.{number, refusal_number}
 use Rattle.cells.specs.Calls.{change_by, put_up_code}
-use Rattle.rows.proofs.CallRows.{ask_asked}
+use Rattle.rows.proofs.FirstRow.{is_refused}
 use Rattle.hub.proofs.CallLaws.{event_refused, event_taken}
 use Rattle.hub.proofs.ask.Goals as goal
 
-pub returns-then-row-ne0 : goal.returns-then-row-ne0
-returns-then-row-ne0 c =
+pub returns-in_err-ask_row : goal.returns-in_err-ask_row
+returns-in_err-ask_row c =
     let a = c.args in
-    event_refused a.p.now a.s.now (ask (class_of a.high) a.t a.k a.b) c.ask_row-row.ensures c.if-row-ne0.true
-
-pub overflow_cast-k : goal.overflow_cast-k
-overflow_cast-k c =
-    let a = c.args in
-    let w = ask_asked a.p.now a.s.now (class_of a.high) a.t a.k a.b c.ask_row-row.ensures c.if-row-ne0.false in
-    omega arith
-
-pub request_code-code-requires : goal.request_code-code-requires
-request_code-code-requires c =
-    let a = c.args in
-    let w = ask_asked a.p.now a.s.now (class_of a.high) a.t a.k a.b c.ask_row-row.ensures c.if-row-ne0.false in
-    omega arith
-
-pub overflow_cast-k-2 : goal.overflow_cast-k-2
-overflow_cast-k-2 c =
-    let a = c.args in
-    let w = ask_asked a.p.now a.s.now (class_of a.high) a.t a.k a.b c.ask_row-row.ensures c.if-row-ne0.false in
-    omega arith
-
-pub overflow_cast-k-3 : goal.overflow_cast-k-3
-overflow_cast-k-3 c =
-    let a = c.args in
-    let w = ask_asked a.p.now a.s.now (class_of a.high) a.t a.k a.b c.ask_row-row.ensures c.if-row-ne0.false in
-    omega arith
+    let r = c.in_err-ask_row.field-0.0 in
+    let same : number c.from_residual.result ≡ refusal_number r = search rules in
+    rw same (event_refused a.p.now a.s.now (ask (class_of a.high) a.t a.k a.b) c.in_err-ask_row.ensures (is_refused r))
 
 pub returns : goal.returns
 unfolding change_by
 returns c =
     let a = c.args in
     let code = c.request_code-code.ensures ∙ ap (put_up_code (class_of a.high) a.k a.b) c.advance.ensures in
-    event_taken a.p.now a.s.now (ask (class_of a.high) a.t a.k a.b) c.ask_row-row.ensures c.if-row-ne0.false
+    event_taken a.p.now a.s.now (ask (class_of a.high) a.t a.k a.b) c.in_ok-ask_row.ensures refl
     (rw (c.record.ensures, code, c.advance.ensures) at c.put_request.ensures)

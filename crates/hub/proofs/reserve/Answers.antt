@@ -1,48 +1,24 @@
 -- `reserve` meets its contract: the clock comes to t, and the reservation is the latest accepted one.
-use native.Mathlib.Omega.{arith}
+use Rattle.std.proofs.Common.{rules}
+use mathlib.Core.Path.{◌≡◌, refl}
 use Rattle.rules.specs.Call.{reserve}
+use Rattle.cells.specs.Step.{number, refusal_number}
 use Rattle.cells.specs.Calls.{change_by}
-use Rattle.admission.proofs.ReserveRows.{reserve_reserved}
+use Rattle.rows.proofs.FirstRow.{is_refused}
 use Rattle.hub.proofs.CallLaws.{event_refused, event_taken}
 use Rattle.hub.proofs.reserve.Goals as goal
 
-pub returns-then-row-ne0 : goal.returns-then-row-ne0
-returns-then-row-ne0 c =
+pub returns-in_err-reserve_row : goal.returns-in_err-reserve_row
+returns-in_err-reserve_row c =
     let a = c.args in
-    event_refused a.p.now a.s.now (reserve a.t a.k a.n a.b) c.reserve_row-row.ensures c.if-row-ne0.true
-
-pub overflow_cast-k : goal.overflow_cast-k
-overflow_cast-k c =
-    let a = c.args in
-    -- its node is one of the plan, and its figures fit a half of a cell each
-    let kept = reserve_reserved a.p.now a.s.now a.t a.k a.n a.b c.reserve_row-row.ensures c.if-row-ne0.false in
-    omega arith
-
-pub overflow_cast-n : goal.overflow_cast-n
-overflow_cast-n c =
-    let a = c.args in
-    -- its node is one of the plan, and its figures fit a half of a cell each
-    let kept = reserve_reserved a.p.now a.s.now a.t a.k a.n a.b c.reserve_row-row.ensures c.if-row-ne0.false in
-    omega arith
-
-pub overflow_cast-b : goal.overflow_cast-b
-overflow_cast-b c =
-    let a = c.args in
-    -- its node is one of the plan, and its figures fit a half of a cell each
-    let kept = reserve_reserved a.p.now a.s.now a.t a.k a.n a.b c.reserve_row-row.ensures c.if-row-ne0.false in
-    omega arith
-
-pub put_latest-requires : goal.put_latest-requires
-put_latest-requires c =
-    let a = c.args in
-    -- its node is one of the plan, and its figures fit a half of a cell each
-    let kept = reserve_reserved a.p.now a.s.now a.t a.k a.n a.b c.reserve_row-row.ensures c.if-row-ne0.false in
-    omega arith
+    let r = c.in_err-reserve_row.field-0.0 in
+    let same : number c.from_residual.result ≡ refusal_number r = search rules in
+    rw same (event_refused a.p.now a.s.now (reserve a.t a.k a.n a.b) c.in_err-reserve_row.ensures (is_refused r))
 
 pub returns : goal.returns
 unfolding change_by
 returns c =
     let a = c.args in
-    event_taken a.p.now a.s.now (reserve a.t a.k a.n a.b) c.reserve_row-row.ensures
-    c.if-row-ne0.false
+    event_taken a.p.now a.s.now (reserve a.t a.k a.n a.b) c.in_ok-reserve_row.ensures
+    refl
     (rw (c.share_code.ensures, c.advance.ensures) at c.put_latest.ensures)

@@ -17,4 +17,4 @@ returns-then-s-ne0-2 c = simp (eq-eqb _ _ c.if-s-ne0.false, ne_eqb (get_or c.arg
 
 pub returns : goal.returns
 unfolding sought_by
-returns c = simp (eq-eqb _ _ c.if-s-ne0.false, eq-eqb _ _ c.if-s-ne0-2.false)
+returns c = simp (eq-eqb _ _ c.if-s-ne0.false, eq-eqb (get_or c.args.s.now (mask_cell false 1) 0) 0 (omega arith))

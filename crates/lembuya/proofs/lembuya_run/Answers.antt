@@ -1,34 +1,29 @@
 -- `lembuya_run` meets its contract: what `text_run::run` leaves, and its answer told by its case.
-use mathlib.Core.Path.{sym, ◌∙◌}
 use native.Mathlib.Omega.{arith}
-use Rattle.log_spec.specs.Log.{log_bytes}
-use Rattle.lembuya.proofs.Laws.{behind_number, behind_end, short_number, short_end}
+use Rattle.writer.specs.Write.{put_number}
+use Rattle.lembuya.proofs.Laws.{behind_end, short_end}
 use Rattle.lembuya.proofs.lembuya_run.Goals as goal
 
-pub returns-in-Behind : goal.returns-in-Behind
-returns-in-Behind c =
-    let a = c.args in
-    let e = c.run.ensures in
-    let x = sym c.in-Behind.is ∙ e.value in
-    let w = behind_number a.log.now (log_bytes a.text.now) c.in-Behind.z x in
+pub returns-in-Some : goal.returns-in-Some
+unfolding put_number
+returns-in-Some c =
+    let e = c.in-Some.ensures in
     record {
-      value = omega (arith, w);
+      value = omega (arith, e.result_value);
       log_after = e.buffer_after;
-      end_after = behind_end a.end.now c.in-Behind.z x;
+      end_after = behind_end c.args.end.now c.in-Some.z e.value;
       plan_after = e.plan_after;
       s_after = e.s_after;
     }
 
-pub returns-in-Short : goal.returns-in-Short
-returns-in-Short c =
-    let a = c.args in
-    let e = c.run.ensures in
-    let x = sym c.in-Short.is ∙ e.value in
-    let w = short_number a.log.now (log_bytes a.text.now) x in
+pub returns-in-None : goal.returns-in-None
+unfolding put_number
+returns-in-None c =
+    let e = c.in-None.ensures in
     record {
-      value = omega (arith, w);
+      value = omega (arith, e.result_value);
       log_after = e.buffer_after;
-      end_after = short_end a.end.now x;
+      end_after = short_end c.args.end.now e.value;
       plan_after = e.plan_after;
       s_after = e.s_after;
     }

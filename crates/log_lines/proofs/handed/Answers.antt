@@ -1,23 +1,15 @@
--- `log_lines::handed` meets its contract: a text within the limit is handed whole, and of a longer one the front. Assumes nothing.
-use mathlib.Core.Path.{◌≡◌, refl, sym}
-use mathlib.Core.List.{List}
-use Prim.Native.Nat.{ℕ, ◌≤◌}
+-- `log_lines::handed` meets its contract: the front up to the limit, or the whole of a text within it. Assumes nothing.
+use mathlib.Core.Path.{◌≡◌, ap, ◌∙◌}
+use Prim.Native.Nat.{ℕ, min}
 use native.Mathlib.Omega.{arith}
-use lib.ListN.{length, length-take}
-use lib.Seq.{take_all}
+use lib.ListN.{length, take}
+use Rattle.std.proofs.lemmas.List.{take_min}
 use Rattle.log_lines.specs.Handed.{limit, handed}
 use Rattle.log_lines.proofs.handed.Goals as goal
 
-whole : (text : List ℕ) → length text ≤ limit → text ≡ handed text
-unfolding handed
-whole text h = sym (take_all limit text h)
-
-pub returns-then-text-le65536 : goal.returns-then-text-le65536
-returns-then-text-le65536 c = whole c.args.text.now (omega arith)
-
-pub slice_bounds-result-end : goal.slice_bounds-result-end
-slice_bounds-result-end c = simp length-take (omega arith)
-
 pub returns : goal.returns
 unfolding handed
-returns c = refl
+returns c =
+    let text = c.args.text.now in
+    let count : c.min.result ≡ min limit (length text) = omega (arith, c.min.ensures) in
+    ap (λ (n : ℕ). take n text) count ∙ take_min limit text

@@ -1,58 +1,21 @@
--- `log_lines::step_line` meets its contract: each answer's form is its line, and the others write nothing. Assumes nothing.
+-- `log_lines::step_line` meets its contract: a refused step writes nothing. Assumes nothing.
+use Rattle.std.specs.Prelude.{Result, Ok, Err}
 use mathlib.Core.Path.{◌≡◌}
-use mathlib.Core.List.{[], ◌∷◌}
-use Prim.Native.Nat.{ℕ}
+use mathlib.Core.List.{[]}
+use Rattle.cells.specs.Step.{told_step}
+use Rattle.cells.specs.declared.Refusal.{Refusal}
 use Rattle.cells.specs.declared.Step.{Step}
-use Rattle.cells.specs.declared.Step.TheVariants.{Grant, Rest, Quiet, Refused}
-use Rattle.writer.specs.Write.{draw_line}
-use Rattle.log_lines.specs.Lines.{grant_word, rest_word, grant_line, rest_line, step_line}
-use Rattle.log_lines.proofs.PutSame.{put_same_3, none-same}
+use Rattle.log_lines.specs.Lines.{step_line}
+use Rattle.log_lines.proofs.PutSame.{none-same}
 use Rattle.log_lines.proofs.step_line.Goals as goal
 
--- the line by what the answer is
-granted : (x : Step) (s k class end moves wait : ℕ) → x ≡ Grant s k class end moves wait
-    → draw_line grant_word (s ∷ k ∷ class ∷ end ∷ moves ∷ wait ∷ []) ≡ step_line x
-unfolding step_line grant_line
-granted x s k class end moves wait e = rw e
-
-rested : (x : Step) (s moves : ℕ) → x ≡ Rest s moves → draw_line rest_word (s ∷ moves ∷ []) ≡ step_line x
-unfolding step_line rest_line
-rested x s moves e = rw e
-
-quiet : (x : Step) → x ≡ Quiet → [] ≡ step_line x
+refused : (x : Result Step Refusal) (r : Refusal) → x ≡ Err r → [] ≡ step_line (told_step x)
 unfolding step_line
-quiet x e = rw e
+refused x r e = rw e
 
-refused : (x : Step) (n : ℕ) → x ≡ Refused n → [] ≡ step_line x
-unfolding step_line
-refused x n e = rw e
-
-pub returns-in-Grant : goal.returns-in-Grant
-returns-in-Grant c =
-    let a = c.args in
-    let p = c.put_form in
-    let line =
-    granted a.step c.in-Grant.time c.in-Grant.node c.in-Grant.class c.in-Grant.end c.in-Grant.moves c.in-Grant.wait c.in-Grant.is in
-    let same = put_same_3 a.write a.buffer.now a.at p.result p.new.buffer p.ensures line in
-    record { value = same.0; buffer_after = same.1.0; result_value = same.1.1 }
-
-pub returns-in-Rest : goal.returns-in-Rest
-returns-in-Rest c =
-    let a = c.args in
-    let p = c.put_form-in-Rest in
-    let same = put_same_3 a.write a.buffer.now a.at p.result p.new.buffer p.ensures (rested a.step c.in-Rest.time c.in-Rest.moves c.in-Rest.is) in
-    record { value = same.0; buffer_after = same.1.0; result_value = same.1.1 }
-
-pub returns-in-Quiet : goal.returns-in-Quiet
-returns-in-Quiet c =
+pub returns-in-Err : goal.returns-in-Err
+returns-in-Err c =
     let a = c.args in
     let p = c.put_word in
-    let same = none-same a.write a.buffer.now a.at p.result p.new.buffer p.ensures (quiet a.step c.in-Quiet.is) in
-    record { value = same.0; buffer_after = same.1.0; result_value = same.1.1 }
-
-pub returns-in-Refused : goal.returns-in-Refused
-returns-in-Refused c =
-    let a = c.args in
-    let p = c.put_word-in-Refused in
-    let same = none-same a.write a.buffer.now a.at p.result p.new.buffer p.ensures (refused a.step c.in-Refused.field-0 c.in-Refused.is) in
+    let same = none-same a.write a.buffer.now a.at p.result p.new.buffer p.ensures (refused a.answer c.in-Err.field-0 c.in-Err.is) in
     record { value = same.0; buffer_after = same.1.0; result_value = same.1.1 }

@@ -16,10 +16,9 @@ use Rattle.text.specs.declared.Cursor.{Cursor}
 use Rattle.text.proofs.Lines.{scanned_line}
 use Rattle.plan_tree.specs.declared.Kind.{Kind}
 use Rattle.plan_tree.specs.declared.Kind.TheVariants.{Close, Node, Empty, Hub, Other}
-use Rattle.plan.specs.declared.Answer.TheVariants.{Taken}
+use Rattle.plan.specs.Answer.{Taken}
 use Rattle.plan_tree.specs.declared.Place.{Place}
-use Rattle.plan_tree.specs.declared.Part.{Part}
-use Rattle.plan_tree.specs.declared.Part.TheVariants.{Read, Stopped}
+use Rattle.plan_tree.specs.Part.{Part, Read, Stopped}
 use Rattle.plan_tree.specs.Kind.{kind_of}
 use Rattle.plan_tree.specs.Tables.{put_empty, put_node, put_hub, put_ports}
 use Rattle.plan.specs.Tables.{Figures, put_figures}
@@ -183,7 +182,7 @@ module _ (fig : Figures) (text : List ℕ) where
 
       by_kind_lem : (kind : Kind)
           → Agrees os x.at (if passes kind here then refusal (cursor x) 3 else by_kind fig kind (λ s. hub_lines fig rest (next (cursor x) l) s) (cursor x) l here)
-          (on_kind text inner more kind x.number behind g q levels t)
+          (on_kind inner more kind x.number behind g q levels t)
       by_kind_lem Close = guarded os x.at (λ d. d) (eqb q 0) x.number t _ _ (stopped os x.at x.number 3 t) (λ e. closing os)
       by_kind_lem Node =
           guarded os x.at (behind_port more) (leb most_ports q || leb 256 x.nodes) x.number t _

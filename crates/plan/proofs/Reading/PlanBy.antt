@@ -11,13 +11,12 @@ use Rattle.std.specs.Prelude.{if◌then◌else◌}
 use Rattle.rules.specs.Plan.{longest_in}
 use Rattle.text.specs.Line.{Lines, nothing, unended, ended, lines, hand_out, next_line}
 use Rattle.text.specs.Word.{is_word}
-use Rattle.text.specs.Form.{read_form, form_of, form_at}
+use Rattle.text.specs.Form.{read_form}
 use Rattle.text.specs.declared.Cursor.{Cursor}
-use Rattle.header.specs.declared.Figure.TheVariants.{Got, Not}
+use Rattle.header.specs.Figure.{Got, Not}
 use Rattle.header.specs.Lines.{figure_of, figure_in, figure_at, optional_of, optional_in, optional_at, root_in, root_at}
 use Rattle.plan_tree.specs.declared.Place.{Place}
-use Rattle.plan_tree.specs.declared.Part.{Part}
-use Rattle.plan_tree.specs.declared.Part.TheVariants.{Read, Stopped}
+use Rattle.plan_tree.specs.Part.{Part, Read, Stopped}
 use Rattle.plan_tree.specs.Kind.{kind_of, is_hub}
 use Rattle.plan.specs.Words.{frame_word, overhead_word, interrupt_word, framing_word, strict_word}
 use Rattle.plan_tree.specs.Tables.{no_table, put_root}
@@ -44,14 +43,13 @@ module _ (text : List ℕ) where
       ranged l rest f false x = refl
 
       formed : (l : List ℕ) (rest : Lines) → First text c l rest → (o : Option (List ℕ))
-          → figure o low high c (λ x. more x rest (next c l)) ≡ behind_figure (figure_of (form_of o) c.number (next c l) low high) goes_on
-      unfolding form_of
+          → figure o low high c (λ x. more x rest (next c l)) ≡ behind_figure (figure_of o c.number (next c l) low high) goes_on
       formed l rest f none = refl
       formed l rest f (some ns) = ranged l rest f (leb low (get_or ns 0 0) && leb (get_or ns 0 0) high) (get_or ns 0 0)
 
       figure_agrees : on_line (lines (drop c.at text)) c (λ l rest. figure (read_form word 1 l) low high c (λ x. more x rest (next c l)))
           ≡ behind_figure (figure_at text c word low high) goes_on
-      unfolding figure_at next_line hand_out form_at
+      unfolding figure_at next_line hand_out
       figure_agrees = go (lines (drop c.at text)) refl
         where
           go : (ls : Lines) → lines (drop c.at text) ≡ ls
@@ -68,14 +66,13 @@ module _ (text : List ℕ) where
       (agree : (x : ℕ) (d : Cursor) → Early d → says (lines (drop d.at text)) d x ≡ goes_on x d) (same : absent (lines (drop c.at text)) c ≡ without)
     where
       optional-formed : (l : List ℕ) (rest : Lines) → First text c l rest → (o : Option (List ℕ))
-          → where_form o (says rest (next c l)) without ≡ behind_optional (optional_of (form_of o) (next c l)) goes_on without
-      unfolding form_of
+          → where_form o (says rest (next c l)) without ≡ behind_optional (optional_of o (next c l)) goes_on without
       optional-formed l rest f none = refl
       optional-formed l rest f (some ns) = rw (← f.behind) (agree (get_or ns 0 0) (next c l) (omega arith))
 
       optional_agrees : optional word count (lines (drop c.at text)) (λ l rest x. says rest (next c l) x) (absent (lines (drop c.at text)) c)
           ≡ behind_optional (optional_at text c word count) goes_on without
-      unfolding optional_at next_line hand_out form_at
+      unfolding optional_at next_line hand_out
       optional_agrees = rw same (go (lines (drop c.at text)) refl)
         where
           go : (ls : Lines) → lines (drop c.at text) ≡ ls

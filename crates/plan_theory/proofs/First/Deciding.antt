@@ -6,7 +6,7 @@ use native.Mathlib.Omega.{arith}
 use Rattle.rules.proofs.Laws.Clash.{clash}
 use Rattle.text.specs.Line.{Lines, nothing, unended, ended, next_number}
 use Rattle.text.specs.declared.Cursor.{Cursor}
-use Rattle.plan.specs.declared.Answer.TheVariants.{Taken, Refused}
+use Rattle.plan.specs.Answer.{Taken, Refused}
 use Rattle.plan.specs.Reading.{Read}
 use Rattle.plan_theory.specs.First.{first_lines}
 use Rattle.plan_theory.proofs.First.Places.{same_none, same_unended, same_ended, Plans, Headed, Follows, Says, says_1, Clean, Step, Among, step_over, carried, clean_over, behind-line, at_same_line}

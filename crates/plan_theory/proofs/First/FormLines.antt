@@ -11,7 +11,7 @@ use Rattle.rules.proofs.Laws.Clash.{clash}
 use Rattle.text.specs.Line.{Lines, ended}
 use Rattle.text.specs.Form.{read_form, Small}
 use Rattle.text.specs.declared.Cursor.{Cursor}
-use Rattle.plan.specs.declared.Answer.TheVariants.{Refused}
+use Rattle.plan.specs.Answer.{Refused}
 use Rattle.plan.specs.Reading.{Read, next, optional, unless_row}
 use Rattle.plan_theory.specs.Tree.{draw_optional}
 use Rattle.plan_theory.specs.Behind.{lines_optional}

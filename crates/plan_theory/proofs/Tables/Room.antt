@@ -2,7 +2,7 @@
 use Prim.Native.Nat.{ℕ, ◌+◌, ◌-◌, ◌≤◌}
 use mathlib.Core.Path.{◌≡◌, subst}
 use native.Mathlib.Omega.{arith}
-use Rattle.plan_theory.specs.Tree.{Port, hub, Hub, port, ports_of, nodes_at, nodes_in, hubs_at}
+use Rattle.plan_theory.specs.Tree.{Port, hub, Hub, port, nodes_at, hubs_at}
 use Rattle.plan_theory.proofs.Tree.Room as tree
 
 -- port q of hub g, which is of level l, behind n nodes and h hubs

@@ -9,7 +9,7 @@ use Rattle.rules.specs.Plan.{most_hubs, most_ports, most_nodes, most_levels}
 use Rattle.text.specs.Line.{Lines}
 use Rattle.text.specs.Word.{is_word}
 use Rattle.text.specs.declared.Cursor.{Cursor}
-use Rattle.plan.specs.declared.Answer.TheVariants.{Taken}
+use Rattle.plan.specs.Answer.{Taken}
 use Rattle.plan_tree.specs.Kind.{kind_of, hub_word}
 use Rattle.plan_tree.specs.Tables.{put_hub}
 use Rattle.plan.specs.Tables.{Figures, put_figures}

@@ -1,24 +1,22 @@
 -- The drawing of every tree within the limits, behind a good header,
 -- is taken for that very tree, whatever follows it. Assumes nothing.
-use Prim.Native.Nat.{ℕ, ◌+◌, ◌≤◌, ◌<◌, ◌^◌}
+use Prim.Native.Nat.{ℕ, ◌+◌, ◌≤◌}
 use mathlib.Core.Path.{◌≡◌, refl, sym, ap, ◌∙◌, subst}
 use mathlib.Core.Bool.{Bool, true, false}
 use mathlib.Core.List.{List, []}
 use native.Mathlib.Omega.{arith}
-use lib.ListN.{drop}
 use Rattle.rules.specs.Plan.{longest_in}
 use Rattle.rules.proofs.Laws.Lengths.{longest_low}
 use Rattle.text.specs.Line.{Lines, ended, lines}
 use Rattle.text.specs.Word.{is_word}
 use Rattle.text.specs.declared.Cursor.{Cursor}
-use Rattle.plan.specs.declared.Answer.TheVariants.{Taken}
 use Rattle.plan_tree.specs.Kind.{kind_of, hub_word}
 use Rattle.plan.specs.Words.{frame_word, overhead_word, interrupt_word, framing_word, strict_word}
 use Rattle.plan_tree.specs.Tables.{no_table, put_root}
 use Rattle.plan.specs.Tables.{Figures, plan_of}
 use Rattle.plan.specs.Reading.{Read, next, framing_row, root_line, strict_line, framing_line, interrupt_line, overhead_line, frame_line, reading}
 use Rattle.plan_theory.specs.Tree.{Header, figures_of, meant, no_number, draw_optional, Hub, draw, draw_hub, nodes_in, hubs_in, limits, good_figures, good_framing, Filled, filled, tables_of}
-use Rattle.plan_theory.specs.Behind.{lines_of, past_interrupt, past_framing, past_figures, past}
+use Rattle.plan_theory.specs.Behind.{past_interrupt, past_framing, past_figures, past}
 use Rattle.plan_theory.specs.Taken.{FiguresTold, HubTold, TakenFor}
 use Rattle.plan_theory.proofs.Tables.Drawn.{figures_are, ports_are}
 use Rattle.plan_theory.proofs.Tree.Room.{limits_room}

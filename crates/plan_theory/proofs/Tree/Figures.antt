@@ -1,7 +1,7 @@
 -- The figures of a plan: their ranges as facts, which framings are known and what the framing's rows leave, and
 -- a figure's line read from its drawing. Assumes nothing.
 use Prim.Native.Nat.{ℕ, ◌+◌, ◌≤◌, ◌<◌, ◌^◌}
-use mathlib.Core.Path.{◌≡◌, refl, sym}
+use mathlib.Core.Path.{◌≡◌, refl}
 use mathlib.Core.Bool.{Bool, true, ◌&&◌}
 use mathlib.Core.List.{List, [], ◌∷◌}
 use native.Mathlib.Omega.{arith}
@@ -69,7 +69,7 @@ module _ (fig : Figures) where
   pub no_row : good_framing fig ≡ true → longest_in fig.framing + fig.overhead ≤ fig.interrupt
       → framing_row fig.overhead fig.interrupt fig.framing ≡ 0
   unfolding good_framing
-  no_row known fits = sym (row_none fig.overhead fig.interrupt fig.framing known fits)
+  no_row known fits = row_none fig.overhead fig.interrupt fig.framing known fits
 
   pub good_row : framing_row fig.overhead fig.interrupt fig.framing ≡ 0
       → (good_framing fig ≡ true) × (longest_in fig.framing + fig.overhead ≤ fig.interrupt)

@@ -7,7 +7,7 @@ use mathlib.Core.Option.{Option, none, some}
 use native.Mathlib.Omega.{arith}
 use lib.ListN.{length}
 use Rattle.rules.proofs.Laws.Passes.{true-false}
-use Rattle.text.specs.Line.{Lines, nothing, unended, ended, lines}
+use Rattle.text.specs.Line.{Lines, nothing, unended, ended}
 use Rattle.text.specs.Form.{draw_form, Small}
 use Rattle.plan.specs.Words.{frame_word, overhead_word, interrupt_word, framing_word, strict_word}
 use Rattle.plan_tree.specs.Kind.{close_word, hub_word}

@@ -8,7 +8,7 @@ use borrow.Author.Tests.{leb-true, le-leb}
 use lib.Dec.{leb}
 use Rattle.rules.specs.Plan.{most_hubs, most_ports, most_nodes, most_levels}
 use Rattle.text.proofs.Words.{both}
-use Rattle.plan_theory.specs.Tree.{Port, node, hub, Hub, close, port, ports_of, nodes_at, nodes_in, hubs_at, hubs_in, levels_at, levels_in, wide, widths_at, widths_in, fits, limits}
+use Rattle.plan_theory.specs.Tree.{Port, hub, Hub, close, port, ports_of, nodes_at, nodes_in, hubs_at, hubs_in, levels_at, levels_in, wide, widths_at, widths_in, fits, limits}
 
 pub and-true : (a b : Bool) → a ≡ true → b ≡ true → (a && b) ≡ true
 and-true a b p q = rw (p, q)

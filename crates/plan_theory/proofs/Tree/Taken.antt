@@ -5,10 +5,9 @@ use mathlib.Core.Path.{◌≡◌, refl, sym, ◌∙◌}
 use mathlib.Core.Logic.{◌↔◌}
 use mathlib.Core.List.{List}
 use native.Mathlib.Omega.{arith}
-use Rattle.plan.specs.declared.Answer.{Answer}
-use Rattle.plan.specs.declared.Answer.TheVariants.{Taken, Refused}
+use Rattle.plan.specs.Answer.{Answer, Taken, Refused}
 use Rattle.plan.specs.Reading.{reading}
-use Rattle.plan_theory.specs.Tree.{nodes_in, hubs_in, tables_of}
+use Rattle.plan_theory.specs.Tree.{nodes_in, hubs_in}
 use Rattle.plan_theory.specs.Behind.{past}
 use Rattle.plan_theory.specs.Taken.{DrawnBy, TakenAs, RefusedAt, TakenFor, OfTree}
 use Rattle.plan_theory.proofs.Tree.DrawnTaken.{drawn_taken}

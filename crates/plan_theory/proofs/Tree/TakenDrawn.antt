@@ -17,10 +17,9 @@ use Rattle.text.proofs.Words.{both}
 use Rattle.text.proofs.Forms.{form_law}
 use Rattle.plan_tree.specs.declared.Kind.{Kind}
 use Rattle.plan_tree.specs.declared.Kind.TheVariants.{Close, Node, Empty, Hub as HubKind, Other}
-use Rattle.plan.specs.declared.Answer.TheVariants.{Taken}
+use Rattle.plan.specs.Answer.{Taken}
 use Rattle.plan_tree.specs.declared.Place.{Place}
-use Rattle.plan_tree.specs.declared.Part.{Part}
-use Rattle.plan_tree.specs.declared.Part.TheVariants.{Read, Stopped}
+use Rattle.plan_tree.specs.Part.{Part, Read, Stopped}
 use Rattle.plan_tree.specs.Kind.{kind_of, hub_word, is_hub}
 use Rattle.plan.specs.Words.{frame_word, overhead_word, interrupt_word, framing_word, strict_word}
 use Rattle.plan_tree.specs.Tables.{no_table, put_root}

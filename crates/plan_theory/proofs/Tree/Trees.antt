@@ -15,8 +15,7 @@ use Rattle.text.proofs.Words.{is_word_lem}
 use Rattle.plan_tree.specs.declared.Kind.{Kind}
 use Rattle.plan_tree.specs.declared.Kind.TheVariants.{Close, Node, Empty, Hub as HubKind, Other}
 use Rattle.plan_tree.specs.declared.Place.{Place}
-use Rattle.plan_tree.specs.declared.Part.{Part}
-use Rattle.plan_tree.specs.declared.Part.TheVariants.{Read, Stopped}
+use Rattle.plan_tree.specs.Part.{Part, Read, Stopped}
 use Rattle.plan_tree.specs.Kind.{kind_of, close_word, node_word, empty_word, hub_word}
 use Rattle.plan_tree.specs.Tables.{put_empty, put_node, put_hub, put_ports}
 use Rattle.plan.specs.Reading.{next}
@@ -197,7 +196,7 @@ module _ (text : List ℕ) where
           entered k p d.part d.tables
           (ih (with_hub behind) (x.hubs + 1) 0 (levels - 1) (l + 1) u (omega arith) (omega arith) few (omega arith))
 
-      by_kind_lem : (kind : Kind) → Drawing kind w → TreeRead x q l (on_kind text inner more kind x.number behind g q levels t).part
+      by_kind_lem : (kind : Kind) → Drawing kind w → TreeRead x q l (on_kind inner more kind x.number behind g q levels t).part
       by_kind_lem Close k = closes k (eqb q 0) refl
       by_kind_lem Node k = noded k (leb most_ports q || leb most_nodes x.nodes) refl
       by_kind_lem Empty k = emptied k (leb most_ports q) refl

@@ -1,10 +1,10 @@
 -- `ports::lowest` meets its contract.
+use Rattle.std.specs.Prelude.{Some}
 use mathlib.Core.Path.{sym, ap, ◌∙◌}
 use Prim.Native.Nat.{ℕ, ◌-◌, ◌*◌, ◌/◌, ◌%◌, ◌^◌, ◌≤◌, ◌<◌}
 use native.Mathlib.Omega.{arith}
 use lib.Bits.{bit_or}
 use Rattle.ports.specs.Mask.{shows}
-use Rattle.ports.specs.declared.Found.TheVariants.{Port}
 use Rattle.ports.proofs.Searching.{Rotated, rotated, unrotated, rotated_back, gone_round, past_the_last}
 use Rattle.ports.proofs.lowest.Goals as goal
 
@@ -25,7 +25,7 @@ is_rotated m pointer l h = rotated 32 (pointer - 1) m (omega arith)
 pub returns-then-zeros-pointer : goal.returns-then-zeros-pointer
 returns-then-zeros-pointer c =
     let a = c.args in
-    ap Port (omega arith) ∙ sym (rotated_back a.mask (rotated-mask a.mask a.pointer) a.pointer a.pointer (omega arith) (is_rotated a.mask a.pointer (omega arith) (omega arith)) (omega arith))
+    ap Some (omega arith) ∙ sym (rotated_back a.mask (rotated-mask a.mask a.pointer) a.pointer a.pointer (omega arith) (is_rotated a.mask a.pointer (omega arith) (omega arith)) (omega arith))
 
 pub returns-then-pointer-ge1 : goal.returns-then-pointer-ge1
 returns-then-pointer-ge1 c =
@@ -37,7 +37,7 @@ returns-then-pointer-ge1 c =
 pub returns-then-zeros-lt32 : goal.returns-then-zeros-lt32
 returns-then-zeros-lt32 c =
     let a = c.args in
-    ap Port (omega arith) ∙ sym (rotated_back a.mask a.mask a.pointer 1 (omega arith) (unrotated 32 a.mask) (omega arith))
+    ap Some (omega arith) ∙ sym (rotated_back a.mask a.mask a.pointer 1 (omega arith) (unrotated 32 a.mask) (omega arith))
 
 pub returns-else-zeros-lt32 : goal.returns-else-zeros-lt32
 returns-else-zeros-lt32 c =

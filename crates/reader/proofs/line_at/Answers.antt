@@ -26,5 +26,5 @@ returns c =
     let r = c.new-r in
     let l = c.next-line in
     c.told.ensures
-    ∙ back r.result l.new.r l.result.bytes.now l.result.number l.result.ended a.text.now a.at a.number
+    ∙ back r.result l.new.self l.result.bytes.now l.result.number l.result.ended a.text.now a.at a.number
     (ap (λ (t : Bor (List ℕ)). t.now) r.ensures.0) r.ensures.1 r.ensures.2 l.ensures.0.0 l.ensures.1 l.ensures.2 l.ensures.3

@@ -7,7 +7,7 @@ use native.Mathlib.Omega.{arith}
 use lib.Dec.{ltb, eqb}
 use lib.ListN.{get_or}
 use borrow.Author.Tests.{eqb-false}
-use Rattle.std.specs.Prelude.{if◌then◌else◌}
+use Rattle.std.specs.Prelude.{if◌then◌else◌, Option, Some, None}
 use Rattle.rules.specs.Plan.{Plan, most_levels}
 use Rattle.rules.specs.Drawn.{Drawn, Within}
 use Rattle.rules.specs.Call.{Class, same, Call, ask, off, reserve, until, step}
@@ -25,15 +25,14 @@ use Rattle.rules.proofs.Flat.Turns.{node_counts}
 use Rattle.rules.proofs.Core.AlwaysSound.{Good, turn_counts}
 use Rattle.ports.specs.Mask.{digit}
 use Rattle.plan.specs.Tables.{plan_of}
-use Rattle.cells.specs.declared.Due.{Due}
-use Rattle.cells.specs.declared.Due.TheVariants.{At, Never}
-use Rattle.cells.specs.declared.Sought.{Sought}
-use Rattle.cells.specs.declared.Sought.TheVariants as seek
+use Rattle.cells.specs.Sought.{Sought}
+use Rattle.cells.specs.Sought as seek
 use Rattle.cells.specs.Layout.{holder_cell, class_cell, class_of}
 use Rattle.cells.specs.Decode.{plan_in, core_of, control_of, hub_of}
 use Rattle.cells.specs.Frames.{advance_by}
 use Rattle.cells.specs.Instants.{due_by, sought_by, sought_in}
-use Rattle.cells.specs.Calls.{row_by, grant_by, rest_by, handled_by, step_due, step_by, event_answer, step_answer, class_number, class_numbered, event_left, perform_by}
+use Rattle.cells.specs.Step.{class_number}
+use Rattle.cells.specs.Calls.{row_by, grant_by, rest_by, handled_by, step_due, step_by, event_answer, step_answer, class_numbered, event_left, perform_by}
 use Rattle.cells.specs.Looks.{walk_by_looks, nearest_by_looks, walked_looks, handled_looks, step_due_looks, step_looks, looks_by}
 use Rattle.refinement.specs.Kept.{Ready, Kept, counts_of}
 use Rattle.refinement.proofs.Requested.{Left}
@@ -159,12 +158,12 @@ module _ (P : List ℕ) (R : Ready P) (s : List ℕ) (K : Kept (plan_in P) s)
         (sym (class_read is_high)) (turned is_high (granting (class_of is_high) q))
     handled_looks_lem seek.Nothing e = refl
 
-  due-looks : (t : ℕ) (x : Due) → step_due_looks P x t s ≡ call_looks (plan_in P) (hub_of (plan_in P) s) (step_answer (step_due P x t s).answer)
+  due-looks : (t : ℕ) (x : Option ℕ) → step_due_looks P x t s ≡ call_looks (plan_in P) (hub_of (plan_in P) s) (step_answer (step_due P x t s).answer)
   unfolding step_due_looks step_due step_answer
-  due-looks t Never = refl
-  due-looks t (At d) = go (which (ltb d t))
+  due-looks t None = refl
+  due-looks t (Some d) = go (which (ltb d t))
     where
-      go : Which (ltb d t) → step_due_looks P (At d) t s ≡ call_looks (plan_in P) (hub_of (plan_in P) s) (step_answer (step_due P (At d) t s).answer)
+      go : Which (ltb d t) → step_due_looks P (Some d) t s ≡ call_looks (plan_in P) (hub_of (plan_in P) s) (step_answer (step_due P (Some d) t s).answer)
       go (yes' l) = rw l (handled_looks_lem d (sought_by (advance_by P d s)) refl)
       go (no' l) = rw l
 

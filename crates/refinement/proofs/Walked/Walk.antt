@@ -7,7 +7,7 @@ use native.Mathlib.Omega.{arith}
 use lib.Dec.{eqb}
 use lib.ListN.{get_or, set}
 use borrow.Author.Tests.{ne_eqb, eqb-true, eqb-false}
-use Rattle.std.specs.Prelude.{if◌then◌else◌}
+use Rattle.std.specs.Prelude.{if◌then◌else◌, Option, Some, None}
 use Rattle.rules.specs.Plan.{Plan, Port, node, empty, hub, most_levels}
 use Rattle.rules.specs.Drawn.{Within, Hung}
 use Rattle.rules.specs.Machine.{Turn}
@@ -16,8 +16,6 @@ use Rattle.rules.proofs.Laws.Passes.{Which, which, yes', no', true-false}
 use Rattle.rules.proofs.Control.Steps.{entered, resumed, own, walk_node, walk_afresh, walk_resume, walk_round, walk_up}
 use Rattle.ports.specs.Mask as mask
 use Rattle.ports.specs.Search.{lowest_from}
-use Rattle.ports.specs.declared.Found.{Found}
-use Rattle.ports.specs.declared.Found.TheVariants as found
 use Rattle.cells.specs.Layout.{mask_cell, pointer_cell, class_of, unmarked_code, marked_code}
 use Rattle.cells.specs.Decode.{plan_in, control_of}
 use Rattle.cells.specs.Turns.{Turned, walk_by}
@@ -75,7 +73,7 @@ module _ (P : List ℕ) (R : Ready P) (is_high : Bool) (f : ℕ → Bool) where
     abbrev Lowest : ℕ → Type 0
     Lowest q = lowest (plan_in P) f g ((control_of (plan_in P) s).pointer (class_of is_high) g).port ≡ q
 
-    abbrev LowestBy : Found → Type 0
+    abbrev LowestBy : Option ℕ → Type 0
     LowestBy r = lowest_from (mask.shows (get_or s (mask_cell is_high g) 0)) (get_or s (pointer_cell is_high g) 0 / 2) ≡ r
 
     -- the holder's pointer, or another's
@@ -85,7 +83,7 @@ module _ (P : List ℕ) (R : Ready P) (is_high : Bool) (f : ℕ → Bool) where
         point_stored (plan_in P) is_high h (unmarked_code q) s k.size few u
         ∙ ap (λ (x : Pointer). point (class_of is_high) h x (control_of (plan_in P) s)) (pointer_unmarked q)
 
-    node_step : (q j : ℕ) → Lowest q → LowestBy (found.Port q) → Within ((plan_in P).ports g) q → (plan_in P).port g q ≡ node j → Step
+    node_step : (q j : ℕ) → Lowest q → LowestBy (Some q) → Within ((plan_in P).ports g) q → (plan_in P).port g q ≡ node j → Step
     node_step q j a b v e =
         let covers = rw e at (R.drawn.covers g q w v) in
         let some : j ≡ 0 → ⊥ = λ z. omega (arith, covers.0) in
@@ -112,7 +110,7 @@ module _ (P : List ℕ) (R : Ready P) (is_high : Bool) (f : ℕ → Bool) where
     own_tied q =
         ap (λ (x : Pointer). eqb q x.port && x.marked) (pointer_read (plan_in P) is_high g s w) ∙ marked_here (get_or s (pointer_cell is_high g) 0) q
 
-    hub_step : (q h : ℕ) → Lowest q → LowestBy (found.Port q) → Within ((plan_in P).ports g) q → (plan_in P).port g q ≡ hub h → Step
+    hub_step : (q h : ℕ) → Lowest q → LowestBy (Some q) → Within ((plan_in P).ports g) q → (plan_in P).port g q ≡ hub h → Step
     hub_step q h a b v e = go (which (eqb (get_or s (pointer_cell is_high g) 0) (marked_code q)))
       where
         hung : Hung (plan_in P) g q h
@@ -150,7 +148,7 @@ module _ (P : List ℕ) (R : Ready P) (is_high : Bool) (f : ℕ → Bool) where
             ∙ ap (point (class_of is_high) h (at_port 1)) (marked_stored q))))
 
     -- rule 4 at the root, and at a lower hub
-    round_step : Lowest 0 → LowestBy found.Nothing → g ≡ 1 → Step
+    round_step : Lowest 0 → LowestBy None → g ≡ 1 → Step
     round_step a b r =
         let root : Within (plan_in P).hubs 1 = record { low = omega arith; up = R.drawn.some_hub } in
         rw (walk_round (plan_in P) (class_of is_high) f n (hand_to g (control_of (plan_in P) s)) m a r, by_round P is_high n g m s cell_low b r)
@@ -159,7 +157,7 @@ module _ (P : List ℕ) (R : Ready P) (is_high : Bool) (f : ℕ → Bool) where
         (stored_same (plan_in P) few is_high f 1 (unmarked_code 1) root s)
         (rw r (ap (hand_to 1) (unmarked_stored 1 1 root))))
 
-    up_step : Lowest 0 → LowestBy found.Nothing → (g ≡ 1 → ⊥) → Step
+    up_step : Lowest 0 → LowestBy None → (g ≡ 1 → ⊥) → Step
     up_step a b r =
         let low : 2 ≤ g = omega (arith, w.low, r) in
         let h = (plan_in P).parent g in
@@ -178,7 +176,7 @@ module _ (P : List ℕ) (R : Ready P) (is_high : Bool) (f : ℕ → Bool) where
         (ap (hand_to h) (unmarked_stored h (q + 1) u)))
 
     -- a port that shows a request isn't empty
-    port_step : (q : ℕ) → Lowest q → LowestBy (found.Port q) → Within ((plan_in P).ports g) q
+    port_step : (q : ℕ) → Lowest q → LowestBy (Some q) → Within ((plan_in P).ports g) q
         → (x : Port) → (plan_in P).port g q ≡ x → seen (plan_in P) f (below (plan_in P) f most_levels) x ≡ true → Step
     port_step q a b v (node j) e t = node_step q j a b v e
     port_step q a b v empty e t = absurd (true-false t refl)

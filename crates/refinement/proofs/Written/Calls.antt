@@ -1,5 +1,6 @@
 -- Of one call on cells of a plan that is taken: within a frame it writes at most L mask cells in each class that it concerns, and over a
 -- frame's start few more.
+use Rattle.std.specs.Prelude.{Option, Some, None}
 use Prim.Native.Nat.{ℕ, ◌+◌, ◌≤◌}
 use mathlib.Core.Path.{◌≡◌}
 use mathlib.Core.List.{List}
@@ -10,10 +11,8 @@ use Rattle.rules.specs.Plan.{Plan}
 use Rattle.rules.specs.Call.{Call, ask, off, reserve, until, step, time}
 use Rattle.rules.specs.Core.{frame_of}
 use Rattle.rules.proofs.Laws.Passes.{Which, which, yes', no'}
-use Rattle.cells.specs.declared.Due.{Due}
-use Rattle.cells.specs.declared.Due.TheVariants.{At, Never}
-use Rattle.cells.specs.declared.Sought.{Sought}
-use Rattle.cells.specs.declared.Sought.TheVariants as seek
+use Rattle.cells.specs.Sought.{Sought}
+use Rattle.cells.specs.Sought as seek
 use Rattle.cells.specs.Layout.{clock_cell, time_at}
 use Rattle.cells.specs.Decode.{plan_in}
 use Rattle.cells.specs.Waits.{record_since}
@@ -89,12 +88,12 @@ module _ (P : List ℕ) (R : Ready P) (s : List ℕ) where
         (omega (arith, grant_few P R (choose_by P is_high r).turn.node w is_high (choose_by P is_high r).cells)) e
     handled_few d seek.Nothing r e = behind (step t) 0 d now (omega arith) e
 
-    due_few : (x : Due) → Tells p (step t) (step_answer (step_due P x t s).answer) now → Few (step t) (step_due_writes P x t s) now
+    due_few : (x : Option ℕ) → Tells p (step t) (step_answer (step_due P x t s).answer) now → Few (step t) (step_due_writes P x t s) now
     unfolding step_due step_due_writes
-    due_few Never told = none (step t) now
-    due_few (At d) told = go (which (ltb d t))
+    due_few None told = none (step t) now
+    due_few (Some d) told = go (which (ltb d t))
       where
-        go : Which (ltb d t) → Few (step t) (step_due_writes P (At d) t s) now
+        go : Which (ltb d t) → Few (step t) (step_due_writes P (Some d) t s) now
         go (yes' l) = rw l (handled_few d (sought_by (advance_by P d s)) (advance_by P d s) (rw l at told))
         go (no' l) = rw l (none (step t) now)
 

@@ -7,7 +7,7 @@ use native.Mathlib.Omega.{arith}
 use native.Mathlib.Nat.{min-le_right}
 use lib.Dec.{ltb, eqb, leb}
 use lib.ListN.{get_or, set}
-use Rattle.std.specs.Prelude.{if◌then◌else◌}
+use Rattle.std.specs.Prelude.{if◌then◌else◌, Option, Some, None}
 use Rattle.rules.specs.Plan.{Port, node, empty, hub, most_levels, most_hubs}
 use Rattle.rules.specs.Control.{most_looks}
 use Rattle.rules.specs.Drawn.{Within}
@@ -16,16 +16,12 @@ use Rattle.rules.proofs.Laws.Passes.{Which, which, yes', no'}
 use Rattle.ports.specs.Ports.{with_port, any_port}
 use Rattle.ports.specs.Mask.{shows, mask_of, digit}
 use Rattle.ports.specs.Search.{lowest_from}
-use Rattle.ports.specs.declared.Found.{Found}
-use Rattle.ports.specs.declared.Found.TheVariants as found
 use Rattle.plan_tree.specs.Tables as plan
 use Rattle.cells.specs.declared.Look.{Look}
 use Rattle.cells.specs.declared.Look.TheVariants.{Node, Pass, Round, Stop}
 use Rattle.cells.specs.declared.Turn.{Turn}
-use Rattle.cells.specs.declared.Due.{Due}
-use Rattle.cells.specs.declared.Due.TheVariants.{At, Never}
-use Rattle.cells.specs.declared.Sought.{Sought}
-use Rattle.cells.specs.declared.Sought.TheVariants as seek
+use Rattle.cells.specs.Sought.{Sought}
+use Rattle.cells.specs.Sought as seek
 use Rattle.cells.specs.Layout.{clock_cell, end_cell, busy_cell, holder_cell, class_cell, standing_cell, mask_cell, pointer_cell, request_cell, force_cell, latest_cell, granted_cell, put_time, share_code, unmarked_code, marked_code}
 use Rattle.cells.specs.Decode.{plan_in}
 use Rattle.cells.specs.Masks.{stands, stands_in, counts_by, mask_with, alike, mend, mend_bit, mend_class, standing_after, put_request, granted_more, grant_node}
@@ -185,10 +181,10 @@ module _ (P : List ℕ) where
         (if_holds (λ (x : Looked). Wrote 0 s x.cells) (ltb 32 h) wrote_stay
         (if_holds (λ (x : Looked). Wrote 0 s x.cells) (ltb 32 q) wrote_stay (pointer_same h (unmarked_code (q + 1)) s)))
 
-    found-same : (g : ℕ) (x : Found) (s : List ℕ) → Wrote 0 s (found_by P is_high g x s).cells
+    found-same : (g : ℕ) (x : Option ℕ) (s : List ℕ) → Wrote 0 s (found_by P is_high g x s).cells
     unfolding found_by hand_up_by
-    found-same g (found.Port q) s = take_same g q (plan.port_of (get_or P (plan.port_cell g q) 0)) s
-    found-same g found.Nothing s =
+    found-same g (Some q) s = take_same g q (plan.port_of (get_or P (plan.port_cell g q) 0)) s
+    found-same g None s =
         if_holds (λ (x : Looked). Wrote 0 s x.cells) (eqb g 1) (pointer_same 1 (unmarked_code 1) s)
         (up_same (get_or P (plan.parent_cell g) 0) (get_or P (plan.place_cell g) 0) s)
 
@@ -256,12 +252,12 @@ module _ (P : List ℕ) where
   handled_counted d seek.Nothing s =
       wrote_behind (wrote_off s holder_cell 1 (low_no_mask holder_cell (omega arith))) (wrote_off _ busy_cell 0 (low_no_mask busy_cell (omega arith)))
 
-  due_counted : (x : Due) (t : ℕ) (s : List ℕ) → Wrote (step_due_writes P x t s) s (step_due P x t s).cells
+  due_counted : (x : Option ℕ) (t : ℕ) (s : List ℕ) → Wrote (step_due_writes P x t s) s (step_due P x t s).cells
   unfolding step_due step_due_writes
-  due_counted Never t s = wrote_stay
-  due_counted (At d) t s = go (which (ltb d t))
+  due_counted None t s = wrote_stay
+  due_counted (Some d) t s = go (which (ltb d t))
     where
-      go : Which (ltb d t) → Wrote (step_due_writes P (At d) t s) s (step_due P (At d) t s).cells
+      go : Which (ltb d t) → Wrote (step_due_writes P (Some d) t s) s (step_due P (Some d) t s).cells
       go (yes' e) = rw e (wrote_then (advance_counted d s) (handled_counted d (sought_by (advance_by P d s)) (advance_by P d s)))
       go (no' e) = rw e wrote_stay
 

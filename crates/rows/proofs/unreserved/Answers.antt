@@ -16,11 +16,11 @@ returns-then-share-lt-HALF c =
     let x = c.share_at-share.result in
     let z : x / half ≡ 0 = omega arith in
     rw (eq-eqb (x / half) 0 z) at
-    (row16_cell (plan_in a.p.now) a.s.now a.k c.requires a.high a.t a.b x c.if-high.true c.share_at-share.ensures)
+    (row16_cell (plan_in a.p.now) a.s.now a.k c.requires a.high a.t a.b x c.if-not-high.false c.share_at-share.ensures)
 
-pub returns-then-high : goal.returns-then-high
-returns-then-high c =
+pub returns : goal.returns
+returns c =
     let a = c.args in
     let x = c.share_at-share.result in
     rw (ne_eqb (x / half) 0 (λ z. omega arith)) at
-    (row16_cell (plan_in a.p.now) a.s.now a.k c.requires a.high a.t a.b x c.if-high.true c.share_at-share.ensures)
+    (row16_cell (plan_in a.p.now) a.s.now a.k c.requires a.high a.t a.b x c.if-not-high.false c.share_at-share.ensures)

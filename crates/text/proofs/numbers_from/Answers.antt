@@ -1,14 +1,9 @@
--- `text::numbers_from` meets its contract. The loop's invariant: what is to be read at the place is what is to be read at p, behind the
--- i numbers that were read, of which the first four are a, b, c and d. The measure is how many numbers are left. Assumes nothing.
-use mathlib.Core.Path.{◌≡◌, refl, sym, ap, ◌∙◌}
-use mathlib.Core.List.{[], ◌∷◌, ◌++◌}
-use Prim.Native.Nat.{ℕ, ◌+◌, ◌-◌}
-use native.Mathlib.Omega.{arith}
-use lib.ListN.{length-append}
-use Rattle.text.specs.Part.{part}
+-- `text::numbers_from` meets its contract. The loop's invariant: what is read of the bytes is what is read of the rest, behind the numbers
+-- that were read, of which the first four are handed out. Assumes nothing.
+use Rattle.std.proofs.Common.{◌≡◌, refl, sym, ap, ◌∙◌, [], ◌∷◌, ◌++◌, ℕ, ◌+◌, ◌-◌, length, drop, take, set, length-append, length-drop, take_all, List, arith}
 use Rattle.text.specs.Form.{read_numbers}
-use Rattle.text.proofs.Run.{place_inside}
-use Rattle.text.proofs.Reading.{closed, not_closed, no_space, no_number, number_more, in_front, in_front_more, no_form, whole_form, one_more_at}
+use Rattle.text.proofs.Reading.{read_some, number_inside, closed, not_closed, no_space, no_number, number_more, in_front, in_front_more, no_form, whole_form, fourth_or_before, behind_the_fourth}
+use Rattle.text.proofs.numbers_from.Goals.{then-i-lt4, else-i-lt4}
 use Rattle.text.proofs.numbers_from.Goals as goal
 
 pub loop-i-init : goal.loop-i-init
@@ -16,62 +11,57 @@ unfolding in_front
 loop-i-init c =
     let a = c.args in
     let e : a.count ≡ a.count - 0 = omega arith in
-    ([], refl, omega arith, ap (λ (n : ℕ). read_numbers n (part a.text.now a.at a.end)) e, refl, refl, refl, refl)
+    ([], refl, ap (λ (n : ℕ). read_numbers n a.s.now) e, refl)
 
-pub returns-then-front-ne32 : goal.returns-then-front-ne32
-returns-then-front-ne32 c =
-    let a = c.args in
-    no_form c.loop-i.invariant.0 _ _ c.loop-i.invariant.3
-    (no_space (a.count - c.loop-i.i) (part a.text.now c.loop-i.p a.end) (omega arith) (λ e. c.if-front-ne32.true (c.front.ensures ∙ e)))
+pub returns-in_err-behind : goal.returns-in_err-behind
+returns-in_err-behind c =
+    let v = c.loop-i.invariant in
+    c.from_residual.ensures ∙ no_form v.0 _ _ v.2 (no_space (c.args.count - c.loop-i.i) c.loop-i.rest.now (omega arith) c.in_err-behind.ensures.cases)
 
-pub overflow_add-p : goal.overflow_add-p
-overflow_add-p c =
-    let a = c.args in
-    omega (arith, place_inside a.text.now c.loop-i.p a.end c.front.result c.front.ensures (omega arith))
+pub returns-in_err-value : goal.returns-in_err-value
+returns-in_err-value c =
+    let v = c.loop-i.invariant in
+    let b = c.in_ok-behind.ensures.cases in
+    c.from_residual-in_err-value.ensures
+    ∙ no_form v.0 _ _ v.2
+    (no_number (c.args.count - c.loop-i.i) c.loop-i.rest.now c.in_ok-behind.behind.now (omega arith) b.0 b.1 c.in_err-value.ensures)
 
-pub returns-in_default : goal.returns-in_default
-returns-in_default c =
-    let a = c.args in
-    no_form c.loop-i.invariant.0 _ _ c.loop-i.invariant.3
-    (no_number a.text.now c.loop-i.p a.end (a.count - c.loop-i.i) (omega arith) (sym c.front.ensures ∙ c.if-front-ne32.false)
-    (sym c.in_default.ensures))
+pub slice_bounds-rest-count : goal.slice_bounds-rest-count
+slice_bounds-rest-count c = number_inside c.in_ok-behind.behind.now c.in_ok-value.value c.in_ok-value.length (read_some _ _ _ c.in_ok-value.ensures)
+
+pub slice_bounds-rest-start : goal.slice_bounds-rest-start
+slice_bounds-rest-start c = number_inside c.in_ok-behind.behind.now c.in_ok-value.value c.in_ok-value.length (read_some _ _ _ c.in_ok-value.ensures)
 
 pub loop-i-preserved : goal.loop-i-preserved
 loop-i-preserved c =
-    let a = c.args in
-    let vs = c.loop-i.invariant.0 in
+    let v = c.loop-i.invariant in
+    let vs : List ℕ = v.0 in
     let i = c.loop-i.i in
-    let v = c.in-Value.value in
-    let next = c.in-Value.next in
-    let more = number_more a.text.now c.loop-i.p a.end (a.count - i) (omega arith) (sym c.front.ensures ∙ c.if-front-ne32.false) v next
-    (sym c.in-Value.ensures) in
-    let fewer : a.count - i - 1 ≡ a.count - (i + 1) = omega arith in (
-      vs ++ (v ∷ []),
-      length-append vs (v ∷ []) ∙ ap (λ (n : ℕ). n + 1) c.loop-i.invariant.1,
-      omega arith,
-      c.loop-i.invariant.3
-          ∙ ap (in_front vs) more
-          ∙ in_front_more vs v (read_numbers (a.count - i - 1) (part a.text.now next a.end))
-          ∙ ap (λ (n : ℕ). in_front (vs ++ (v ∷ [])) (read_numbers n (part a.text.now next a.end))) fewer,
-      c.placed-a.ensures ∙ one_more_at vs i v c.loop-i.a 0 c.loop-i.invariant.1 c.loop-i.invariant.4,
-      c.placed-b.ensures ∙ one_more_at vs i v c.loop-i.b 1 c.loop-i.invariant.1 c.loop-i.invariant.5,
-      c.placed-c.ensures ∙ one_more_at vs i v c.loop-i.c 2 c.loop-i.invariant.1 c.loop-i.invariant.6,
-      c.placed-d.ensures ∙ one_more_at vs i v c.loop-i.d 3 c.loop-i.invariant.1 c.loop-i.invariant.7,
+    let n = c.in_ok-value.value in
+    let k = c.in_ok-value.length in
+    let s = c.in_ok-behind.behind.now in
+    let b = c.in_ok-behind.ensures.cases in
+    let more = number_more (c.args.count - i) c.loop-i.rest.now s (omega arith) b.0 b.1 n k c.in_ok-value.ensures in
+    let fewer : c.args.count - i - 1 ≡ c.args.count - (i + 1) = omega arith in
+    let whole : take (length s - k) (drop k s) ≡ drop k s = take_all (length s - k) (drop k s) (omega (arith, length-drop k s)) in (
+      vs ++ (n ∷ []),
+      length-append vs (n ∷ []) ∙ ap (λ (m : ℕ). m + 1) v.1,
+      v.2 ∙ ap (in_front vs) more ∙ in_front_more vs n _ ∙ rw (fewer, whole),
+      elim c.if-i-lt4.branch [
+        | then-i-lt4 w ↦ w.numbers-is ∙ ap (λ (j : ℕ). set c.loop-i.numbers j n) {y = length vs} (omega arith) ∙ rw v.3 (fourth_or_before vs n (omega arith))
+        | else-i-lt4 w ↦ w.numbers-is ∙ v.3 ∙ behind_the_fourth vs n (omega arith)
+      ],
     )
 
-pub returns-then-line_is : goal.returns-then-line_is
-returns-then-line_is c =
-    let a = c.args in
-    let all : a.count - c.loop-i.i ≡ 0 = omega arith in
-    rw (c.loop-i.invariant.4, c.loop-i.invariant.5, c.loop-i.invariant.6, c.loop-i.invariant.7)
-    (whole_form c.loop-i.invariant.0 _ _ c.loop-i.invariant.3
-    (ap (λ (n : ℕ). read_numbers n (part a.text.now c.loop-i.p a.end)) all
-    ∙ closed (part a.text.now c.loop-i.p a.end) (sym c.line_is.ensures ∙ c.if-line_is.true)))
+pub returns-then-eq : goal.returns-then-eq
+returns-then-eq c =
+    let v = c.loop-i.invariant in
+    let all : c.args.count - c.loop-i.i ≡ 0 = omega arith in
+    rw v.3
+    (whole_form v.0 _ _ v.2 (ap (λ (n : ℕ). read_numbers n c.loop-i.rest.now) all ∙ closed c.loop-i.rest.now (sym (rw c.as_slice.ensures at c.eq.ensures) ∙ c.if-eq.true)))
 
-pub returns : goal.returns
-returns c =
-    let a = c.args in
-    let all : a.count - c.loop-i.i ≡ 0 = omega arith in
-    no_form c.loop-i.invariant.0 _ _ c.loop-i.invariant.3
-    (ap (λ (n : ℕ). read_numbers n (part a.text.now c.loop-i.p a.end)) all
-    ∙ not_closed (part a.text.now c.loop-i.p a.end) (sym c.line_is.ensures ∙ c.if-line_is.false))
+pub returns-else-eq : goal.returns-else-eq
+returns-else-eq c =
+    let v = c.loop-i.invariant in
+    let all : c.args.count - c.loop-i.i ≡ 0 = omega arith in
+    no_form v.0 _ _ v.2 (ap (λ (n : ℕ). read_numbers n c.loop-i.rest.now) all ∙ not_closed c.loop-i.rest.now (sym (rw c.as_slice.ensures at c.eq.ensures) ∙ c.if-eq.false))

@@ -2,14 +2,14 @@
 use Rattle.text_run.proofs.WholeLaws.{plan_refused, plan_taken}
 use Rattle.text_run.proofs.behind_plan.Goals as goal
 
-pub returns-in-Taken : goal.returns-in-Taken
-returns-in-Taken c =
+pub returns-in-Ok : goal.returns-in-Ok
+returns-in-Ok c =
     let a = c.args in
-    let ran = plan_taken a.write a.text.now a.answer a.p.now a.s.now a.buffer.now a.at c.in-Taken.nodes c.in-Taken.hubs c.in-Taken.place c.in-Taken.line c.in-Taken.is c.fresh.ensures c.events.ensures in
+    let ran = plan_taken a.write a.text.now a.answer a.p.now a.s.now a.buffer.now a.at c.in-Ok.taken c.in-Ok.is c.fresh.ensures c.events.ensures in
     record { value = ran.0; s_after = ran.1.0; buffer_after = ran.1.1 }
 
-pub returns-in-Refused : goal.returns-in-Refused
-returns-in-Refused c =
+pub returns-in-Err : goal.returns-in-Err
+returns-in-Err c =
     let a = c.args in
-    let ran = plan_refused a.write a.text.now a.answer a.p.now a.s.now a.buffer.now a.at c.in-Refused.line c.in-Refused.number c.in-Refused.is in
+    let ran = plan_refused a.write a.text.now a.answer a.p.now a.s.now a.buffer.now a.at c.in-Err.is in
     record { value = ran.0; s_after = ran.1.0; buffer_after = ran.1.1 }

@@ -6,10 +6,10 @@ use lib.ListN.{length}
 use Rattle.text_run.proofs.RunState.{whole_run, State}
 use Rattle.text_run.proofs.events.Given as goal
 
-abbrev pub invariant-loop-r : goal.invariant-loop-r
-invariant-loop-r l =
-    State l.write l.p l.text (whole_run l.write l.p l.text l.place l.line l.initial.s l.initial.buffer l.at) l.r.at l.r.number l.s l.buffer l.z
-    × (l.r.text.now ≡ l.text)
+abbrev pub invariant-loop-z : goal.invariant-loop-z
+invariant-loop-z l =
+    State l.write l.p l.text (whole_run l.write l.p l.text l.place l.line l.initial.s l.initial.buffer l.at) l.lines.at l.lines.number l.s l.buffer l.z
+    × (l.lines.text.now ≡ l.text)
 
-abbrev pub decreases-loop-r : goal.decreases-loop-r
-decreases-loop-r l = length l.text - l.r.at
+abbrev pub decreases-loop-z : goal.decreases-loop-z
+decreases-loop-z l = length l.text - l.lines.at

@@ -1,16 +1,19 @@
 -- `text_run::whole_log` meets its contract: every log fits into the buffer, so the pass writes all of it. Assumes nothing.
-use Rattle.text_run.proofs.TwoPasses.{all_of_it, never_short}
+use Rattle.std.specs.Prelude.{Option}
+use Rattle.std.specs.Option.{unwrap_or}
+use Prim.Native.Nat.{ℕ}
+use mathlib.Core.Path.{ap, ◌∙◌}
 use native.Mathlib.Omega.{arith}
+use Rattle.text_run.proofs.TwoPasses.{wrote, whole_there}
 use Rattle.text_run.proofs.whole_log.Goals as goal
 
-pub returns-in-Behind : goal.returns-in-Behind
-returns-in-Behind c =
+pub returns : goal.returns
+returns c =
     let a = c.args in
     let p = c.pass.ensures in
-    let w = all_of_it a.text.now a.s.now a.out.now (omega (arith, c.told-out)) p.value c.in-Behind.end c.in-Behind.is p.buffer_after in
-    record { value = omega (arith, w.0); out_after = w.1; plan_after = p.plan_after; s_after = p.s_after }
-
-pub returns-in-Short : goal.returns-in-Short
-returns-in-Short c =
-    let a = c.args in
-    absurd (never_short a.text.now a.s.now a.out.now (omega (arith, c.told-out)) c.pass.ensures.value c.in-Short.is)
+    record {
+      value = c.unwrap_or.ensures ∙ ap (λ (r : Option ℕ). unwrap_or r 0) (wrote a.text.now a.s.now a.out.now (omega (arith, c.told-out)) p.value);
+      out_after = whole_there a.text.now a.s.now a.out.now (omega (arith, c.told-out)) p.value p.buffer_after;
+      plan_after = p.plan_after;
+      s_after = p.s_after;
+    }

@@ -1,74 +1,64 @@
--- `writer::digits_to` meets its contract. The loop's invariant: the last digits of the number stand in the buffer from p on, and
--- those of v, which are the others, are to stand before p. The measure is v. Assumes nothing.
-use mathlib.Core.Path.{◌≡◌, refl, sym, ap, ◌∙◌}
-use mathlib.Core.List.{List, [], ◌∷◌, ◌++◌, append-nil}
-use Prim.Native.Nat.{ℕ, ◌+◌, ◌-◌, ◌/◌, ◌%◌, ◌≤◌, ◌<◌}
-use native.Mathlib.Omega.{arith}
-use lib.ListN.{length, set, length-append, length-set}
-use lib.Seq.{append_snoc}
-use Rattle.text.specs.Number.{digits}
-use Rattle.text.proofs.Digits.{digits_small, digits_more}
+-- `writer::digits_to` meets its contract. The loop's invariant: the last digits of the number stand in the buffer from `place` on, and
+-- `rest` is the value of those that are to stand before them. Assumes nothing.
+use Rattle.std.proofs.Common.{◌≡◌, sym, ap, ◌∙◌, List, ◌∷◌, ℕ, ◌+◌, ◌-◌, ◌/◌, ◌%◌, ◌≤◌, ◌<◌, length, take, drop, get_or, set, drop-cons, length-drop, add-one, arith}
+use lib.ListN.{drop_of_length-le}
+use lib.Seq.{take-length}
+use Rattle.text.specs.Number.{digits, value_from}
+use Rattle.text.proofs.Digits.{value_digits, value_more, digits_range}
 use Rattle.writer.specs.Write.{overwrite}
 use Rattle.writer.proofs.Writes.{overwrite-none, overwrite-cons}
 use Rattle.writer.proofs.digits_to.Goals as goal
 
-one_length : (n : ℕ) → n < 10 → length (digits n) ≡ 1
-one_length n h = ap length (digits_small n h)
+-- behind all of the digits nothing is written yet
+begun : (d : List ℕ) (p m n : ℕ) → m ≡ length (digits n) → (n ≡ value_from 0 (take m (digits n))) × (d ≡ overwrite d p (drop m (digits n)))
+begun d p m n e = (
+  sym (ap (λ (k : ℕ). value_from 0 (take k (digits n))) e ∙ ap (value_from 0) (take-length (digits n)) ∙ value_digits n),
+  sym (ap (overwrite d p) (drop_of_length-le (digits n) {i = m} (omega arith)) ∙ overwrite-none d p),
+)
 
-more-length : (n : ℕ) → 10 ≤ n → length (digits n) ≡ length (digits (n / 10)) + 1
-more-length n h = ap length (digits_more n h) ∙ length-append (digits (n / 10)) ((48 + n % 10) ∷ [])
+-- one digit before those that stand there
+before : (m n rest : ℕ) → m < length (digits n) → rest ≡ value_from 0 (take (m + 1) (digits n))
+    → (rest / 10 ≡ value_from 0 (take m (digits n))) × (48 + rest % 10 ≡ get_or (digits n) m 0)
+before m n rest inside e =
+    let r = digits_range n m inside in
+    let v = value_more (digits n) m inside in
+    (omega (arith, e, r.0, r.1, v), omega (arith, e, r.0, r.1, v))
 
--- what is written and what is still to come have room
-fits : (value v at p room : ℕ) (s : List ℕ) → digits value ≡ digits v ++ s → p ≡ at + length (digits v) → at + length (digits value) ≤ room
-    → p + length s ≤ room
-fits value v at p room s e here h = omega (arith, ap length e ∙ length-append (digits v) s)
+one_more : (d b : List ℕ) (p m n x : ℕ) → m < length (digits n) → p + length (drop m (digits n)) ≤ length d
+    → b ≡ overwrite d (p + 1) (drop (m + 1) (digits n)) → x ≡ get_or (digits n) m 0 → set b p x ≡ overwrite d p (drop m (digits n))
+one_more d b p m n x inside room e h =
+    let c : drop m (digits n) ≡ get_or (digits n) m 0 ∷ drop (m + 1) (digits n) = rw add-one (drop-cons (digits n) m 0 inside) in
+    rw (e, h) (overwrite-cons d p (get_or (digits n) m 0) (drop (m + 1) (digits n)) (omega (arith, ap length c)) ∙ ap (overwrite d p) (sym c))
 
-pub overflow_add-behind : goal.overflow_add-behind
-overflow_add-behind c = omega (arith, c.requires)
+-- the places of two equal counts
+same : (d : List ℕ) (p q m k n : ℕ) → p ≡ q → m ≡ k → overwrite d p (drop m (digits n)) ≡ overwrite d q (drop k (digits n))
+same d p q m k n e f = rw (e, f)
 
-pub loop-v-init : goal.loop-v-init
-loop-v-init c =
+pub loop-place-init : goal.loop-place-init
+loop-place-init c =
     let a = c.args in
-    ([], sym (append-nil (digits a.value)), omega arith, sym (overwrite-none a.buffer.now (a.at + c.number_length.result)), refl)
+    let p : ℕ = a.at + c.number_length.result in
+    let b = begun a.buffer.now p (p - a.at) a.value (omega (arith, c.number_length.ensures)) in
+    (omega arith, b.0, b.1)
 
-pub overflow_sub-p : goal.overflow_sub-p
-overflow_sub-p c = omega (arith, more-length c.loop-v.v (omega arith), c.loop-v.invariant.2)
-
-pub bounds-buffer-p : goal.bounds-buffer-p
-bounds-buffer-p c =
-    omega (arith, fits c.args.value c.loop-v.v c.args.at c.loop-v.p (length c.args.buffer.now) c.loop-v.invariant.0 c.loop-v.invariant.1 c.loop-v.invariant.2 c.requires, more-length c.loop-v.v (omega arith), c.loop-v.invariant.2, c.loop-v.invariant.4)
-
-pub loop-v-preserved : goal.loop-v-preserved
-loop-v-preserved c =
+pub loop-place-preserved : goal.loop-place-preserved
+loop-place-preserved c =
     let a = c.args in
-    let v = c.loop-v.v in
-    let d = c.digit.result in
-    let l = more-length v (omega arith) in
-    let more : digits v ≡ digits (v / 10) ++ (d ∷ []) = digits_more v (omega arith) ∙ rw c.digit.ensures in
-    let p : c.loop-v.p ≡ c.loop-v.p - 1 + 1 = omega (arith, c.loop-v.invariant.2) in (
-      d ∷ c.loop-v.invariant.0,
-      c.loop-v.invariant.1 ∙ rw more (append_snoc (digits (v / 10)) d c.loop-v.invariant.0),
-      omega (arith, c.loop-v.invariant.2),
-      ap (λ (b : List ℕ). set b (c.loop-v.p - 1) d) (c.loop-v.invariant.3 ∙ ap (λ (q : ℕ). overwrite a.buffer.now q c.loop-v.invariant.0) p)
-          ∙ overwrite-cons a.buffer.now (c.loop-v.p - 1) d c.loop-v.invariant.0 (omega (arith, fits c.args.value c.loop-v.v c.args.at c.loop-v.p (length c.args.buffer.now) c.loop-v.invariant.0 c.loop-v.invariant.1 c.loop-v.invariant.2 c.requires)),
-      length-set c.loop-v.buffer (c.loop-v.p - 1) d ∙ c.loop-v.invariant.4,
+    let s = c.loop-place in
+    let p : ℕ = s.place - 1 in
+    let m : ℕ = p - a.at in
+    let e : s.place - a.at ≡ m + 1 = omega arith in
+    let inside : m < length (digits a.value) = omega (arith, c.number_length.ensures) in
+    let b = before m a.value s.rest inside (s.invariant.1 ∙ ap (λ (k : ℕ). value_from 0 (take k (digits a.value))) e) in (
+      omega arith,
+      omega (arith, b.0),
+      ap (λ (j : ℕ). set s.buffer j (48 + s.rest % 10)) (omega arith)
+          ∙ one_more a.buffer.now s.buffer p m a.value (48 + s.rest % 10) inside (omega (arith, length-drop m (digits a.value), c.requires))
+          (s.invariant.2 ∙ same a.buffer.now s.place (p + 1) (s.place - a.at) (m + 1) a.value (omega arith) e) b.1,
     )
-
-pub bounds-buffer-at : goal.bounds-buffer-at
-bounds-buffer-at c =
-    omega (arith, fits c.args.value c.loop-v.v c.args.at c.loop-v.p (length c.args.buffer.now) c.loop-v.invariant.0 c.loop-v.invariant.1 c.loop-v.invariant.2 c.requires, one_length c.loop-v.v (omega arith), c.loop-v.invariant.2, c.loop-v.invariant.4)
-
-pub shape_of-buffer : goal.shape_of-buffer
-shape_of-buffer c = simp length-set c.loop-v.invariant.4
 
 pub returns : goal.returns
 returns c =
     let a = c.args in
-    let one : digits c.loop-v.v ≡ c.digit-2.result ∷ [] = digits_small c.loop-v.v (omega arith) ∙ rw c.digit-2.ensures in
-    let all : digits a.value ≡ c.digit-2.result ∷ c.loop-v.invariant.0 = c.loop-v.invariant.1 ∙ rw one in
-    let p : c.loop-v.p ≡ a.at + 1 = omega (arith, one_length c.loop-v.v (omega arith), c.loop-v.invariant.2) in (
-      omega (arith, c.number_length.ensures),
-      ap (λ (b : List ℕ). set b a.at c.digit-2.result) (c.loop-v.invariant.3 ∙ ap (λ (q : ℕ). overwrite a.buffer.now q c.loop-v.invariant.0) p)
-          ∙ overwrite-cons a.buffer.now a.at c.digit-2.result c.loop-v.invariant.0 (omega (arith, fits c.args.value c.loop-v.v c.args.at c.loop-v.p (length c.args.buffer.now) c.loop-v.invariant.0 c.loop-v.invariant.1 c.loop-v.invariant.2 c.requires))
-          ∙ ap (overwrite a.buffer.now a.at) (sym all),
-    )
+    let s = c.loop-place in
+    (omega (arith, c.number_length.ensures), s.invariant.2 ∙ same a.buffer.now s.place a.at (s.place - a.at) 0 a.value (omega arith) (omega arith))

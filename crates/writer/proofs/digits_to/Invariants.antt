@@ -1,18 +1,9 @@
-use mathlib.Core.Path.{◌≡◌}
-use mathlib.Core.List.{List, ◌++◌}
-use Prim.Native.Nat.{ℕ, ◌+◌}
-use lib.ListN.{length}
-use Rattle.text.specs.Number.{digits}
+use Rattle.std.proofs.Common.{◌≡◌, ◌-◌, ◌≤◌, take, drop}
+use Rattle.text.specs.Number.{digits, value_from}
 use Rattle.writer.specs.Write.{overwrite}
 use Rattle.writer.proofs.digits_to.Given as goal
 
-abbrev pub invariant-loop-v : goal.invariant-loop-v
-invariant-loop-v l =
-    (s : List ℕ)
-    × (digits l.value ≡ digits l.v ++ s)
-    × (l.p ≡ l.at + length (digits l.v))
-    × (l.buffer ≡ overwrite l.initial.buffer l.p s)
-    × (length l.buffer ≡ length l.initial.buffer)
-
-abbrev pub decreases-loop-v : goal.decreases-loop-v
-decreases-loop-v l = l.v
+abbrev pub invariant-loop-place : goal.invariant-loop-place
+invariant-loop-place l =
+    (l.at ≤ l.place) × (l.rest ≡ value_from 0 (take (l.place - l.at) (digits l.value)))
+    × (l.buffer ≡ overwrite l.initial.buffer l.place (drop (l.place - l.at) (digits l.value)))

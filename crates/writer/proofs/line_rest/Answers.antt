@@ -1,15 +1,12 @@
 -- `writer::line_rest` meets its contract. The loop's invariant: the line and what is left of the room are the room and what is left of the
--- numbers, with the bracket and LF. The measure is how many numbers are left. Assumes nothing.
-use mathlib.Core.Path.{◌≡◌}
-use mathlib.Core.List.{List}
-use Prim.Native.Nat.{ℕ, ◌+◌, ◌≤◌}
-use native.Mathlib.Omega.{arith}
-use lib.ListN.{length, drop, get_or, drop_of_length-le}
+-- numbers, with the bracket and LF. Assumes nothing.
+use Rattle.std.proofs.Common.{◌≡◌, ◌∙◌, List, ℕ, ◌+◌, ◌≤◌, length, drop, get_or, arith}
+use lib.ListN.{drop_of_length-le}
 use Rattle.text.specs.Form.{draw_numbers}
-use Rattle.writer.specs.Write.{draw_line}
 use Rattle.text.proofs.Digits.{digits-length}
+use Rattle.writer.specs.Write.{draw_line}
 use Rattle.writer.proofs.Spaced.{line-length, left_more}
-use Rattle.writer.proofs.Writes.{rest_over, rest_short}
+use Rattle.writer.proofs.Writes.{rest_of, rest_short}
 use Rattle.writer.proofs.line_rest.Goals as goal
 
 -- behind the last number the bracket and LF are left
@@ -17,41 +14,37 @@ all_counted : (numbers : List ℕ) (i : ℕ) → length numbers ≤ i → length
 unfolding draw_numbers
 all_counted numbers i h = rw (drop_of_length-le numbers {i = i} h)
 
-pub returns-then-room-word : goal.returns-then-room-word
-returns-then-room-word c =
+pub returns-in_err-left : goal.returns-in_err-left
+returns-in_err-left c =
     let a = c.args in
-    rest_short (length (draw_line a.word.now a.numbers.now)) a.room (omega (arith, line-length a.word.now a.numbers.now))
+    let h : (length a.word.now ≤ a.room → ⊥) = c.in_err-left.ensures in
+    c.from_residual.ensures ∙ rest_short (length (draw_line a.word.now a.numbers.now)) a.room (omega (arith, h, line-length a.word.now a.numbers.now))
 
-pub loop-i-init : goal.loop-i-init
-loop-i-init c =
+pub loop-number-init : goal.loop-number-init
+loop-number-init c =
     let a = c.args in
-    (omega arith, omega (arith, line-length a.word.now a.numbers.now))
+    omega (arith, line-length a.word.now a.numbers.now, c.in_ok-left.ensures.0, c.in_ok-left.ensures.1)
 
-pub overflow_add-need : goal.overflow_add-need
-overflow_add-need c =
-    let i = c.loop-i.i in
-    let numbers = c.args.numbers.now in
-    omega (arith, digits-length 19 (get_or numbers i 0) (omega (arith, c.shared_slice_known-in-loop-i-1.given i)))
+pub overflow_add-number_length : goal.overflow_add-number_length
+overflow_add-number_length c =
+    let i = c.loop-number.number-index in
+    omega (arith, digits-length 19 (get_or c.args.numbers.now i 0) (omega (arith, (c.type_inv.numbers i).fits)), c.number_length.ensures)
 
-pub returns-then-left-need : goal.returns-then-left-need
-returns-then-left-need c =
+pub returns-in_err-left-2 : goal.returns-in_err-left-2
+returns-in_err-left-2 c =
     let a = c.args in
-    rest_short (length (draw_line a.word.now a.numbers.now)) a.room
-    (omega (arith, c.loop-i.invariant.1, left_more a.numbers.now c.loop-i.i (omega arith), c.number_length-need.ensures))
+    let h : (c.number_length.result + 1 ≤ c.loop-number.left → ⊥) = c.in_err-left-2.ensures in
+    c.from_residual-in_err-left-2.ensures
+    ∙ rest_short (length (draw_line a.word.now a.numbers.now)) a.room
+    (omega (arith, h, c.loop-number.invariant, left_more a.numbers.now c.loop-number.number-index (omega arith), c.number_length.ensures))
 
-pub loop-i-preserved : goal.loop-i-preserved
-loop-i-preserved c =
-    let a = c.args in
-    (omega arith, omega (arith, c.loop-i.invariant.1, left_more a.numbers.now c.loop-i.i (omega arith), c.number_length-need.ensures))
-
-pub returns-then-left-lt2 : goal.returns-then-left-lt2
-returns-then-left-lt2 c =
-    let a = c.args in
-    rest_short (length (draw_line a.word.now a.numbers.now)) a.room
-    (omega (arith, c.loop-i.invariant.1, all_counted a.numbers.now c.loop-i.i c.loop-i-test.false))
+pub loop-number-preserved : goal.loop-number-preserved
+loop-number-preserved c =
+    let i = c.loop-number.number-index in
+    omega (arith, c.loop-number.invariant, left_more c.args.numbers.now i (omega arith), c.number_length.ensures, c.in_ok-left-2.ensures.0, c.in_ok-left-2.ensures.1)
 
 pub returns : goal.returns
 returns c =
     let a = c.args in
-    rest_over (length (draw_line a.word.now a.numbers.now)) a.room _
-    (omega (arith, c.loop-i.invariant.1, all_counted a.numbers.now c.loop-i.i c.loop-i-test.false))
+    rest_of (length (draw_line a.word.now a.numbers.now)) a.room _ c.loop-number.left _ c.checked_sub-2.ensures
+    (omega (arith, c.loop-number.invariant, all_counted a.numbers.now c.loop-number.number-index c.loop-number-test.false))

@@ -1,47 +1,26 @@
--- `writer::number_length` meets its contract. The loop's invariant: the number has at least n digits, and the limit is
--- 10 ^ n, from where on it has more. No number of 64 bits has more than 20. Assumes nothing.
-use mathlib.Core.Path.{◌≡◌, refl, ap, ◌∙◌}
-use Prim.Native.Nat.{ℕ, zero, suc, ◌+◌, ◌*◌, ◌^◌, ◌≤◌, ◌<◌}
-use native.Mathlib.Nat.{pow-suc, pow-le-pow_right}
-use native.Mathlib.Numerals.{add-one}
+-- `writer::number_length` meets its contract: a number from 10 ^ k on and below 10 ^ (k + 1) has k + 1 digits, and 0 has one.
+-- Assumes nothing.
+use mathlib.Core.Path.{◌≡◌}
+use Prim.Native.Nat.{ℕ, zero, suc, ◌+◌, ◌*◌, ◌^◌, ◌≤◌, ◌<◌, max}
+use native.Mathlib.Nat.{pow-succ', pow-le-pow_right}
 use native.Mathlib.Omega.{arith}
 use lib.ListN.{length}
 use Rattle.text.specs.Number.{digits}
 use Rattle.text.proofs.Digits.{digits_some, digits-length, digits_reach}
 use Rattle.writer.proofs.number_length.Goals as goal
 
--- below 10 ^ n at most n digits
-at_most : (n value : ℕ) → 1 ≤ n → value < 10 ^ n → length (digits value) ≤ n
-at_most zero value some h = absurd (omega arith)
-at_most (suc n) value some h = digits-length n value h
+counted : (v k : ℕ) → 1 ≤ v → 10 ^ k ≤ v → v < 10 * 10 ^ k → k + 1 ≡ length (digits v)
+counted v k some low high =
+    let p : 10 ^ suc k ≡ 10 * 10 ^ k = pow-succ' 10 k in
+    omega (arith, digits_reach k v low, digits-length k v (omega arith))
 
--- a limit that the number reaches
-reached : (n limit value : ℕ) → limit ≡ 10 ^ n → limit ≤ value → n + 1 ≤ length (digits value)
-reached n limit value e h = rw (add-one n) (digits_reach n value (rw e at h))
-
-pub loop-limit-init : goal.loop-limit-init
-loop-limit-init c = (refl, omega arith, omega arith, digits_some c.args.value)
-
-pub returns-then-n-eq20 : goal.returns-then-n-eq20
-returns-then-n-eq20 c =
-    let v = c.args.value in
-    omega (arith, reached c.loop-limit.n c.loop-limit.limit v c.loop-limit.invariant.0 (omega arith), digits-length 19 v (omega arith))
-
-pub overflow_mul-limit : goal.overflow_mul-limit
-overflow_mul-limit c =
-    let s = c.loop-limit in
-    let small : 10 ^ s.n ≤ 10 ^ 18 = pow-le-pow_right {n = 10} (omega arith) {i = s.n} {j = 18} (omega arith) in
-    omega (arith, s.invariant.0)
-
-pub loop-limit-preserved : goal.loop-limit-preserved
-loop-limit-preserved c = (
-  ap (λ (l : ℕ). l * 10) c.loop-limit.invariant.0 ∙ rw (add-one c.loop-limit.n, pow-suc 10 c.loop-limit.n),
-  omega arith,
-  omega arith,
-  reached c.loop-limit.n c.loop-limit.limit c.args.value c.loop-limit.invariant.0 (omega arith),
-)
+counted_one : (k : ℕ) → 10 ^ k ≤ 1 → k + 1 ≡ length (digits 0)
+counted_one zero low = omega (arith, digits_some 0, digits-length 0 0 (omega arith))
+counted_one (suc k) low = absurd (omega (arith, pow-succ' 10 k, pow-le-pow_right {n = 10} (omega arith) {i = 0} {j = k} (omega arith)))
 
 pub returns : goal.returns
-returns c =
-    let v = c.args.value in
-    omega (arith, at_most c.loop-limit.n v c.loop-limit.invariant.1 (rw c.loop-limit.invariant.0 at c.loop-limit-test.false))
+returns c = omega (arith, go c.args.value c.max.result c.max.ensures c.ilog10.ensures.power_le c.ilog10.ensures.next_power_gt)
+  where
+    go : (v m : ℕ) → m ≡ max v 1 → 10 ^ c.ilog10.result ≤ m → m < 10 * 10 ^ c.ilog10.result → c.ilog10.result + 1 ≡ length (digits v)
+    go zero m e low high = counted_one c.ilog10.result (omega arith)
+    go (suc v) m e low high = counted (suc v) c.ilog10.result (omega arith) (omega arith) (omega arith)

@@ -1,4 +1,5 @@
 -- `writer::put_number` meets its contract: it writes the digits where there is room for them, and else changes nothing. Assumes nothing.
+use Rattle.std.specs.Prelude.{Some}
 use mathlib.Core.Path.{◌≡◌, sym, ap, ◌∙◌}
 use mathlib.Core.Bool.{Bool}
 use Prim.Native.Nat.{ℕ, ◌+◌}
@@ -6,7 +7,6 @@ use borrow.Author.Tests.{leb-true, leb-false}
 use lib.Dec.{leb}
 use lib.ListN.{length}
 use Rattle.text.specs.Number.{digits}
-use Rattle.writer.specs.declared.Put.TheVariants.{Behind}
 use Rattle.writer.proofs.Writes.{put-fits, put_short, put_told_lem}
 use Rattle.writer.proofs.put_number.Goals as goal
 
@@ -29,4 +29,4 @@ pub returns : goal.returns
 returns c =
     let a = c.args in
     let p = put-fits a.buffer.now a.at (digits a.value) (leb-true _ _ (sym (tested c.has_room.result a.at c.number_length.result a.value (length a.buffer.now) c.has_room.ensures c.number_length.ensures) ∙ c.if-not-has_room.false)) in
-    put_told_lem a.buffer.now a.at (digits a.value) _ _ (ap Behind c.digits_to.ensures.0 ∙ sym p.0) (c.digits_to.ensures.1 ∙ sym p.1)
+    put_told_lem a.buffer.now a.at (digits a.value) _ _ (ap Some c.digits_to.ensures.0 ∙ sym p.0) (c.digits_to.ensures.1 ∙ sym p.1)

@@ -1,7 +1,7 @@
 -- `writer::put_word` meets its contract: it copies where there is room, and else changes nothing. Assumes nothing.
+use Rattle.std.specs.Prelude.{Some}
 use mathlib.Core.Path.{sym, ap, ◌∙◌}
 use borrow.Author.Tests.{leb-true, leb-false}
-use Rattle.writer.specs.declared.Put.TheVariants.{Behind}
 use Rattle.writer.proofs.Writes.{put-fits, put_short, put_told_lem}
 use Rattle.writer.proofs.put_word.Goals as goal
 
@@ -18,4 +18,4 @@ pub returns : goal.returns
 returns c =
     let a = c.args in
     let p = put-fits a.buffer.now a.at a.word.now (leb-true _ _ (sym c.has_room.ensures ∙ c.if-not-has_room.false)) in
-    put_told_lem a.buffer.now a.at a.word.now _ _ (ap Behind c.copy_to.ensures.0 ∙ sym p.0) (c.copy_to.ensures.1 ∙ sym p.1)
+    put_told_lem a.buffer.now a.at a.word.now _ _ (ap Some c.copy_to.ensures.0 ∙ sym p.0) (c.copy_to.ensures.1 ∙ sym p.1)

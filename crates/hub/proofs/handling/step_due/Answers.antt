@@ -13,19 +13,19 @@ pub handle-requires : goal.handle-requires
 handle-requires c =
     let a = c.args in
     -- what is due, and that it is before t
-    let w = due_at (plan_in a.p.now) a.t a.s.now (sym c.in-At.ensures) in
-    omega (arith, ltb-true c.in-At.d a.t w.1)
+    let w = due_at (plan_in a.p.now) a.t a.s.now (sym c.in-Some.ensures) in
+    omega (arith, ltb-true c.in-Some.d a.t w.1)
 
-pub returns-in-At : goal.returns-in-At
+pub returns-in-Some : goal.returns-in-Some
 unfolding step_due
-returns-in-At c =
+returns-in-Some c =
     let a = c.args in
-    let w = due_at (plan_in a.p.now) a.t a.s.now (sym c.in-At.ensures) in
+    let w = due_at (plan_in a.p.now) a.t a.s.now (sym c.in-Some.ensures) in
     simp (w.0, w.1, ← c.advance.ensures) c.handle.ensures
 
-pub returns-in-Never : goal.returns-in-Never
-returns-in-Never c =
+pub returns-in-None : goal.returns-in-None
+returns-in-None c =
     let a = c.args in
-    let w = none-due (plan_in a.p.now) a.t a.s.now (sym c.in-Never.ensures) in
+    let w = none-due (plan_in a.p.now) a.t a.s.now (sym c.in-None.ensures) in
     let e = step_quiet a.p.now a.s.now a.t (due_by (plan_in a.p.now) a.s.now) w in
     record { value = sym (ap (λ (x : Stepped). x.answer) e); s_after = sym (ap (λ (x : Stepped). x.cells) e) }

@@ -1,8 +1,0 @@
--- `put_step` meets its contract: the seven stores are the definition's.
-use mathlib.Core.Path.{refl}
-use Rattle.call_list.specs.Table.{put_seven}
-use Rattle.lembuya.proofs.put_step.Goals as goal
-
-pub returns : goal.returns
-unfolding put_seven
-returns c = record { answer_after = refl; value = refl }
