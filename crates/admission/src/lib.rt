@@ -101,14 +101,7 @@ pub fn share_row(p: &Plan, s: &Cascade, k: u64, n: u64, b: u64) -> Result<(), Re
 }
 
 // 11 to 17, of a reserve.
-pub fn reserve_row(
-    p: &Plan,
-    s: &Cascade,
-    t: u64,
-    k: u64,
-    n: u64,
-    b: u64,
-) -> Result<(), Refusal>
+pub fn reserve_row(p: &Plan, s: &Cascade, t: u64, k: u64, n: u64, b: u64) -> Result<(), Refusal>
     ensures { number result ≡ row_by p.now (reserve t k n b) s.now }
 {
     rows::time_row(p, s, t)?;

@@ -88,14 +88,7 @@ fn unreserved(p: &Plan, s: &Cascade, high: bool, t: u64, k: u32, b: u64) -> bool
 }
 
 // 11 to 16, of a normal or high request.
-pub fn ask_row(
-    p: &Plan,
-    s: &Cascade,
-    high: bool,
-    t: u64,
-    k: u64,
-    b: u64,
-) -> Result<(), Refusal>
+pub fn ask_row(p: &Plan, s: &Cascade, high: bool, t: u64, k: u64, b: u64) -> Result<(), Refusal>
     ensures { number result ≡ row_by p.now (ask (class_of high) t k b) s.now }
 {
     node_row(p, s, t, k)?;
