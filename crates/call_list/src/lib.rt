@@ -36,7 +36,7 @@ impl Seven {
     }
 
     // Into the place of answer i of a table.
-    pub fn put(self, answers: &mut [u64], i: usize)
+    fn put(self, answers: &mut [u64], i: usize)
         requires { i * 7 + 7 ≤ length answers.old }
         ensures { answers.new ≡ put_seven i (told_seven self) answers.old }
     {

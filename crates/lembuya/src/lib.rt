@@ -14,6 +14,7 @@ ghost use Rattle.cells.specs.Step.{list_answer};
 ghost use Rattle.cells.specs.Calls.{EventPromise, step_by};
 ghost use Rattle.offers.specs.Offers.{answer_to, clock_of, OffersPromise};
 ghost use Rattle.fit.specs.Fit.{fit_for};
+ghost use Rattle.call_list.specs.Table.{told_seven, put_seven};
 ghost use Rattle.call_list.specs.Promise.{ListPromise};
 ghost use Rattle.log_spec.specs.Log.{log_bytes};
 ghost use Rattle.log_spec.specs.Cells.{plan_left, cells_left};
@@ -110,6 +111,19 @@ pub extern "C" fn lembuya_until(p: &Plan, s: &mut Cascade, t: u64) -> u32
     cells::number(hub::until(p, s, t))
 }
 
+// The seven numbers of a step. A list's answer is a row of a table, whose place has to be in it; here every place is known.
+fn put_seven(answer: &mut [u64; 7], x: Seven)
+    ensures { answer.new ≡ put_seven 0 (told_seven x) answer.old }
+{
+    answer[0] = x.number as u64;
+    answer[1] = x.time;
+    answer[2] = x.node as u64;
+    answer[3] = x.class as u64;
+    answer[4] = x.end;
+    answer[5] = x.moves;
+    answer[6] = x.wait;
+}
+
 #[unsafe(no_mangle)]
 pub extern "C" fn lembuya_step(p: &Plan, s: &mut Cascade, t: u64, answer: &mut [u64; 7]) -> u32
     ensures value { result ≡ step_number (step_by p.now t s.old).answer }
@@ -119,7 +133,7 @@ pub extern "C" fn lembuya_step(p: &Plan, s: &mut Cascade, t: u64, answer: &mut [
     match hub::step(p, s, t) {
         Ok(step) => {
             let seven = Seven::from(step);
-            seven.put(answer, 0);
+            put_seven(answer, seven);
             seven.number
         }
         Err(refusal) => u32::from(refusal),

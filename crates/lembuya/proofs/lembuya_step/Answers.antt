@@ -8,7 +8,7 @@ pub returns-in-Ok : goal.returns-in-Ok
 returns-in-Ok c =
     let e = c.in-Ok.ensures in
     let told = stepped c.in-Ok.step c.args.answer.now c.from-seven.ensures e.0 in
-    record { value = told.0; answer_after = c.put.ensures ∙ told.1; s_after = e.1 }
+    record { value = told.0; answer_after = c.put_seven.ensures ∙ told.1; s_after = e.1 }
 
 pub returns-in-Err : goal.returns-in-Err
 returns-in-Err c =
