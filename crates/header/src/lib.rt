@@ -27,6 +27,7 @@ fn in_range(
 }
 
 // The figure of this word, from low to high, at a cursor, and where the next line starts.
+#[inline(never)]
 pub fn figure_at(
     text: &[u8],
     c: Cursor,

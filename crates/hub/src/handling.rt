@@ -33,6 +33,7 @@ fn end_of(d: u64, bits: u32, overhead: u32) -> u64
 }
 
 // A grant at d to a turn's node.
+#[tactic(auto, using(crate::proofs::CallLaws::high_same), unfolding(cells::specs::Calls::grant_by, plan::specs::Tables::plan_of))]
 fn grant_turn(p: &Plan, s: &mut Cascade, d: u64, class: Class, t: Turn) -> Step
     requires { d ≤ last_time }
     ensures value { told_step (Ok result) ≡ (grant_by p.now d (is_high class) (record { turn = t; cells = s.old })).answer }

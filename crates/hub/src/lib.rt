@@ -56,7 +56,8 @@ pub fn high(p: &Plan, s: &mut Cascade, t: u64, k: u64, b: u64) -> Result<(), Ref
     ask(p, s, true, t, k, b)
 }
 
-// (off t k)
+// (off t k). It is short, so a call of it costs as much as a third of it does.
+#[inline(always)]
 #[tactic(auto, using(rows::proofs::CallRows::off_node))]
 pub fn off(p: &Plan, s: &mut Cascade, t: u64, k: u64) -> Result<(), Refusal>
     ensures { EventPromise p.now (off t k) s.old (number result) s.new }

@@ -41,11 +41,11 @@ module _ (write : Bool) (P : List ℕ) where
     unfolding call_by number_by cells_by
     call_taken e = rw (eq-eqb (row_by P call s) 0 (sym made.0 ∙ ap cells.number e)) (refl, (made.1, refl))
 
-    pub call_refused : {r : Refusal} → answer ≡ Err r → {n : ℕ} → n ≡ cells.refusal_number r
+    pub call_refused : {r : Refusal} → answer ≡ Err r → {n : ℕ}
         → {put : Option ℕ} {b' : List ℕ} → put ≡ put_answer b at (refused_line number n) → b' ≡ pass_buffer write b at (refused_line number n)
-        → Ran (call_by write P number (math.some call) s b at) put s' b'
+        → n ≡ cells.refusal_number r → Ran (call_by write P number (math.some call) s b at) put s' b'
     unfolding call_by number_by cells_by
-    call_refused {r} e {n} told {put} {b'} p w =
+    call_refused {r} e {n} {put} {b'} p w told =
         let row : row_by P call s ≡ n = sym made.0 ∙ ap cells.number e ∙ sym told in
         let some : row_by P call s ≡ 0 → ⊥ = λ z. not_0 r (sym told ∙ sym row ∙ z) in
         rw (ne_eqb (row_by P call s) 0 some, row) (p, (made.1, w))

@@ -5,15 +5,13 @@
 
 ghost use Rattle.std.specs.Prelude.{Ok, ◌≡◌, length, take, Ok, Some};
 ghost use Rattle.writer.specs.Write.{pass_buffer, put_answer, put_number, put_row};
-ghost use Rattle.plan.specs.Answer.{told_answer};
 ghost use Rattle.cells.specs.Step.{told_step};
 ghost use Rattle.log_lines.specs.Handed.{handed};
-ghost use Rattle.log_lines.specs.FirstLine.{nodes_head, nodes_line, refused_line, first_line};
+ghost use Rattle.log_lines.specs.FirstLine.{nodes_head, nodes_line, refused_line, told_numbers, first_line};
 ghost use Rattle.log_lines.specs.Lines.{step_line};
 
 use cells::{Refusal, Step};
 use plan::Taken;
-use plan_tree::Refused;
 
 // The part of a text that is read: its first 65,536 bytes.
 pub fn handed(text: &[u8]) -> &[u8]
@@ -42,25 +40,20 @@ fn nodes_line(nodes: u32, hubs: u32, write: bool, buffer: &mut [u8], at: usize) 
 }
 
 // The line of a plan's answer into the buffer from `at` on, or nothing. Without `write` it is only measured.
+// A refusal is a line and a number, whatever they are.
 pub fn first_line(
-    answer: Result<Taken, Refused>,
+    answer: Result<Taken, (usize, u32)>,
     write: bool,
     buffer: &mut [u8],
     at: usize,
 ) -> Option<usize>
-    ensures value { result ≡ put_answer buffer.old at (first_line (told_answer answer)) }
-    ensures buffer_after { buffer.new ≡ pass_buffer write buffer.old at (first_line (told_answer answer)) }
-    ensures result_value { put_number result ≡ put_row buffer.old at (first_line (told_answer answer)) }
+    ensures value { result ≡ put_answer buffer.old at (first_line (told_numbers answer)) }
+    ensures buffer_after { buffer.new ≡ pass_buffer write buffer.old at (first_line (told_numbers answer)) }
+    ensures result_value { put_number result ≡ put_row buffer.old at (first_line (told_numbers answer)) }
 {
     match answer {
         Ok(taken) => nodes_line(taken.nodes, taken.hubs, write, buffer, at),
-        Err(refused) => refused_line(
-            refused.line as u64,
-            u32::from(refused.row),
-            write,
-            buffer,
-            at,
-        ),
+        Err((line, number)) => refused_line(line as u64, number, write, buffer, at),
     }
 }
 

@@ -138,27 +138,27 @@ pub plan_refused : (r : Result taken.Taken Refused) (e : Refused) → IsErrAnd r
 plan_refused (Ok x) e h = absurd h
 plan_refused (Err d) e h = ap (λ (x : Refused). answer.Refused x.line (row_number x.row)) h
 
+-- the whole plan, by what its header gave
+pub read_by : (text : List ℕ) (fits : length text < 2 ^ 64) {r : Read} → plan_by text (length text) ≡ r → reading text ≡ r
+read_by text fits e = plan_agrees text (length text) (omega arith) fits ∙ e
+
 -- the plan behind its header, by what the root's line and the hub reader gave
-module _ (text : List ℕ) (fits : length text < 2 ^ 64) where
-  pub read_by : {r : Read} → plan_by text (length text) ≡ r → reading text ≡ r
-  read_by e = plan_agrees text (length text) (omega arith) fits ∙ e
+module _ (r : Read) (text : List ℕ) (fig : Figures) (c : Cursor) (header : r ≡ hub_at text (length text) fig c) where
+  pub by_root : {p : Part} → p ≡ root_at text c → r ≡ plan_over fig (behind_root p (λ x. root_reader text (length text) x no_table))
+  by_root e = header ∙ ap (λ (p : Part). plan_over fig (behind_root p (λ x. root_reader text (length text) x no_table))) (sym e)
 
-  module _ (fig : Figures) (c : Cursor) (header : plan_by text (length text) ≡ hub_at text (length text) fig c) where
-    pub by_root : {p : Part} → p ≡ root_at text c → reading text ≡ plan_over fig (behind_root p (λ x. root_reader text (length text) x no_table))
-    by_root e = read_by header ∙ ap (λ (p : Part). plan_over fig (behind_root p (λ x. root_reader text (length text) x no_table))) (sym e)
+  module _ (x : Place) (root : part.Read x ≡ root_at text c) where
+    abbrev tree : Answered
+    tree = root_reader text (length text) x no_table
 
-    module _ (x : Place) (root : part.Read x ≡ root_at text c) where
-      abbrev tree : Answered
-      tree = root_reader text (length text) x no_table
+    pub by_tree : {p : Part} {t : List ℕ} → p ≡ tree.part → t ≡ tree.tables → r ≡ plan_over fig (record { part = p; tables = t })
+    by_tree e f =
+        by_root root ∙ sym (ap {A = Answered} (plan_over fig) (λ i. record { part = e i; tables = f i }))
 
-      pub by_tree : {p : Part} {t : List ℕ} → p ≡ tree.part → t ≡ tree.tables → reading text ≡ plan_over fig (record { part = p; tables = t })
-      by_tree e f =
-          by_root root ∙ sym (ap {A = Answered} (plan_over fig) (λ i. record { part = e i; tables = f i }))
+    module _ (y : Place) (t : List ℕ) (end : part.Read y ≡ tree.part) (tables : t ≡ tree.tables) where
+      pub no_node : y.nodes ≡ 0 → r ≡ refused (y.number - 1) 3
+      no_node z = by_tree end tables ∙ rw (eq-eqb y.nodes 0 z)
 
-      module _ (y : Place) (t : List ℕ) (end : part.Read y ≡ tree.part) (tables : t ≡ tree.tables) where
-        pub no_node : y.nodes ≡ 0 → reading text ≡ refused (y.number - 1) 3
-        no_node z = by_tree end tables ∙ rw (eq-eqb y.nodes 0 z)
-
-        pub some_node : (y.nodes ≡ 0 → ⊥)
-            → reading text ≡ (record { answer = answer.Taken y.nodes y.hubs y.at y.number; tables = put_figures fig y.nodes y.hubs t })
-        some_node n = by_tree end tables ∙ rw (ne_eqb y.nodes 0 n)
+      pub some_node : (y.nodes ≡ 0 → ⊥)
+          → r ≡ (record { answer = answer.Taken y.nodes y.hubs y.at y.number; tables = put_figures fig y.nodes y.hubs t })
+      some_node n = by_tree end tables ∙ rw (ne_eqb y.nodes 0 n)

@@ -7,7 +7,7 @@ ghost use Rattle.header.specs.Lines.{optional_at};
 ghost use Rattle.plan.specs.Tables.{put_figures};
 ghost use Rattle.plan.specs.Answer.{told_answer};
 ghost use Rattle.plan.specs.Reading.{framing_row, reading, leaves};
-ghost use Rattle.plan.specs.PlanReader.{plan_by};
+ghost use Rattle.plan.specs.PlanReader.{hub_at, plan_by};
 ghost use Rattle.plan.specs.Words.{framing_word};
 ghost use Rattle.plan.specs.Header.{figures_of, row_or_0, framing_of, behind_figures};
 
@@ -100,13 +100,13 @@ fn figures_at(text: &[u8]) -> Result<(Figures, Cursor), Refused>
     Ok((figures, strict.map_or(c, |x| x.1)))
 }
 
-// The plan at the start of a text. A taken one's tables stand in `plan`; a refused one leaves it as it was.
-// The tree is read into a table of its own, which takes the lent one's place at the end.
-pub fn read(text: &[u8], plan: &mut Plan) -> Result<Taken, Refused>
-    ensures value { told_answer result ≡ (reading text.now).answer }
-    ensures plan_after { plan.new ≡ leaves (reading text.now) plan.old }
+// The root hub at a cursor. It is read into a table of its own, which takes the lent one's place at the end. A function by itself, so that
+// a header that is refused pays for no table.
+#[inline(never)]
+fn hub_at(text: &[u8], plan: &mut Plan, figures: Figures, c: Cursor) -> Result<Taken, Refused>
+    ensures value { told_answer result ≡ (hub_at text.now (length text.now) (figures_of figures) c).answer }
+    ensures plan_after { plan.new ≡ leaves (hub_at text.now (length text.now) (figures_of figures) c) plan.old }
 {
-    let (figures, c) = figures_at(text)?;
     let root = header::root_at(text, c)?;
     let mut s = [0u32; CELLS];
     let end = plan_tree::root_reader(text, &mut s, root)?;
@@ -121,4 +121,13 @@ pub fn read(text: &[u8], plan: &mut Plan) -> Result<Taken, Refused>
         at: end.at,
         line: end.number,
     })
+}
+
+// The plan at the start of a text. A taken one's tables stand in `plan`; a refused one leaves it as it was.
+pub fn read(text: &[u8], plan: &mut Plan) -> Result<Taken, Refused>
+    ensures value { told_answer result ≡ (reading text.now).answer }
+    ensures plan_after { plan.new ≡ leaves (reading text.now) plan.old }
+{
+    let (figures, c) = figures_at(text)?;
+    hub_at(text, plan, figures, c)
 }

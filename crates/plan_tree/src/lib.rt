@@ -112,6 +112,7 @@ pub const NODE_HUB: usize = 0;
 pub const NODE_PORT: usize = 1;
 
 // What a line is, other than a figure's.
+#[inline(always)]
 pub fn kind_of(line: &[u8]) -> Kind
     ensures { result ≡ kind_of line.now }
 {
@@ -130,7 +131,8 @@ pub fn kind_of(line: &[u8]) -> Kind
     Kind::Other
 }
 
-// The line at a cursor. One without its LF and the text's end are row 1.
+// The line at a cursor. One without its LF and the text's end are row 1. Put into its callers, as the reader's `next` is.
+#[inline(always)]
 pub fn line_at(text: &[u8], c: Cursor) -> Result<Line<'_>, Refused>
     ensures { told_line result ≡ found text.now (next_line text.now c) }
 {

@@ -81,7 +81,8 @@ impl<'a> Reader<'a> {
         Reader { text, at, number }
     }
 
-    // The next line. The reader is left behind it.
+    // The next line. The reader is left behind it. Put into its callers: handing a line on through memory costs as much as finding it.
+    #[inline(always)]
     pub fn next(&mut self) -> Line<'a>
         ensures { (PartOf self.old.text self.old.at (ahead self.old).end result.bytes) × (result.number ≡ self.old.number) × (result.ended ≡ (ahead self.old).ended) × (self.new ≡ moved_on self.old) }
     {

@@ -119,11 +119,11 @@ fn digit_run(s: &[u8]) -> &[u8]
 }
 
 // The number at the front of the bytes, and how many bytes it takes: the digits there are taken whole, and they are a number if there are
-// 1 to 16 of them with no leading zero.
+// 1 to 16 of them with no leading zero. Seventeen are too many already, so no byte behind them is looked at.
 pub fn number_at(s: &[u8]) -> Option<(u64, usize)>
     ensures { result ≡ option_of (read_number s.now) }
 {
-    let digits = digit_run(s);
+    let digits = digit_run(&s[..s.len().min(17)]);
     if digits.is_empty() || 16 < digits.len() {
         return None;
     }

@@ -6,6 +6,7 @@ ghost use Rattle.std.specs.Prelude.{◌≡◌, true, suc, ◌≤◌, length};
 ghost use Rattle.plan.specs.Reading.{reading, leaves};
 ghost use Rattle.plan.specs.Answer.{told_answer};
 ghost use Rattle.log_lines.specs.Handed.{handed};
+ghost use Rattle.log_lines.specs.FirstLine.{told_numbers};
 ghost use Rattle.log_spec.specs.Cells.{events_by, behind_plan, pass_by, plan_left, cells_left};
 ghost use Rattle.line_run.specs.LineRun.{Ran};
 ghost use Rattle.log_spec.specs.Log.{log_bytes};
@@ -67,6 +68,16 @@ fn behind_plan(
     }
 }
 
+// A plan's answer with the row's number in place of the row.
+fn with_number(answer: Result<Taken, Refused>) -> Result<Taken, (usize, u32)>
+    ensures { told_numbers result ≡ told_answer answer }
+{
+    match answer {
+        Ok(taken) => Ok(taken),
+        Err(refused) => Err((refused.line, u32::from(refused.row))),
+    }
+}
+
 // One pass over a text: its log's lines are written, or only measured; the place behind them, or None at the first that doesn't fit.
 fn pass(
     text: &[u8],
@@ -82,7 +93,7 @@ fn pass(
 {
     let text = log_lines::handed(text);
     let answer = plan::read(text, plan);
-    let z = log_lines::first_line(answer, write, buffer, 0)?;
+    let z = log_lines::first_line(with_number(answer), write, buffer, 0)?;
     behind_plan(text, answer, plan, s, write, buffer, z)
 }
 

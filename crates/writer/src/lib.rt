@@ -6,34 +6,46 @@ ghost use Rattle.std.specs.Prelude.{◌≡◌, true, [], ◌+◌, ◌-◌, ◌*�
 ghost use Rattle.text.specs.Number.{digits};
 ghost use Rattle.writer.specs.Write.{overwrite, answered, pass_buffer, put_answer, put_buffer, put_number, put_row, draw_line};
 
-// How many digits a number has: one, and one more for each power of ten from 10 on that it reaches.
+// How many digits a number has: one, and one more for each power of ten from 10 on that it reaches. Tests tell the short ones, of which a
+// log has most, since a processor foresees a test and would have to wait for `ilog10`.
 pub fn number_length(value: u64) -> usize
     ensures { result ≡ length (digits value) }
 {
-    value.max(1).ilog10() as usize + 1
+    match value {
+        0..=9 => 1,
+        10..=99 => 2,
+        100..=999 => 3,
+        1000..=9999 => 4,
+        10000..=99999 => 5,
+        _ => value.ilog10() as usize + 1,
+    }
 }
 
-// All of the bytes, from `at` on, into a buffer that has room for them; the place behind them.
+// All of the bytes, from `at` on, into a buffer that has room for them; the place behind them. They are few, and `copy_from_slice`
+// calls C's memmove.
 fn copy_to(buffer: &mut [u8], at: usize, bytes: &[u8]) -> usize
     requires { at + length bytes.now ≤ length buffer.old }
     ensures { (result ≡ at + length bytes.now) × (buffer.new ≡ overwrite buffer.old at bytes.now) }
 {
-    let behind = at + bytes.len();
-    buffer[at..behind].copy_from_slice(bytes);
-    behind
+    for (i, byte) in bytes.iter().enumerate() {
+        buffer[at + i] = *byte;
+    }
+    at + bytes.len()
 }
 
-// The digits of a number, from `at` on, into a buffer that has room for them; the place behind them. The last digit is written first.
+// The digits of a number, from `at` on, into a buffer that has room for them; the place behind them. The last digit is written first, and
+// the first one needs no division.
 fn digits_to(buffer: &mut [u8], at: usize, value: u64) -> usize
     requires { at + length (digits value) ≤ length buffer.old }
     ensures { (result ≡ at + length (digits value)) × (buffer.new ≡ overwrite buffer.old at (digits value)) }
 {
     let behind = at + number_length(value);
     let mut rest = value;
-    for place in (at..behind).rev() {
+    for place in (at + 1..behind).rev() {
         buffer[place] = b'0' + (rest % 10) as u8;
         rest /= 10;
     }
+    buffer[at] = b'0' + rest as u8;
     behind
 }
 

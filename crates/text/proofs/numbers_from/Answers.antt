@@ -1,6 +1,7 @@
 -- `text::numbers_from` meets its contract. The loop's invariant: what is read of the bytes is what is read of the rest, behind the numbers
 -- that were read, of which the first four are handed out. Assumes nothing.
-use Rattle.std.proofs.Common.{◌≡◌, refl, sym, ap, ◌∙◌, [], ◌∷◌, ◌++◌, ℕ, ◌+◌, ◌-◌, length, drop, take, set, length-append, length-drop, take_all, List, arith}
+use Rattle.std.proofs.Common.{◌≡◌, refl, ap, ◌∙◌, [], ◌∷◌, ◌++◌, ℕ, ◌+◌, ◌-◌, length, drop, take, set, length-append, length-drop, take_all, List, true, false, nat_eq, arith}
+use Rattle.std.specs.Cmp.Lexicographic.{pointwise}
 use Rattle.text.specs.Form.{read_numbers}
 use Rattle.text.proofs.Reading.{read_some, number_inside, closed, not_closed, no_space, no_number, number_more, in_front, in_front_more, no_form, whole_form, fourth_or_before, behind_the_fourth}
 use Rattle.text.proofs.numbers_from.Goals.{then-i-lt4, else-i-lt4}
@@ -57,11 +58,12 @@ pub returns-then-eq : goal.returns-then-eq
 returns-then-eq c =
     let v = c.loop-i.invariant in
     let all : c.args.count - c.loop-i.i ≡ 0 = omega arith in
-    rw v.3
-    (whole_form v.0 _ _ v.2 (ap (λ (n : ℕ). read_numbers n c.loop-i.rest.now) all ∙ closed c.loop-i.rest.now (sym (rw c.as_slice.ensures at c.eq.ensures) ∙ c.if-eq.true)))
+    let here : pointwise nat_eq c.loop-i.rest.now (41 ∷ []) ≡ true = grind (arith, take_all, c.eq.ensures, c.as_slice.ensures, ap length c.as_slice.ensures, c.if-eq.true) in
+    rw v.3 (whole_form v.0 _ _ v.2 (ap (λ (n : ℕ). read_numbers n c.loop-i.rest.now) all ∙ closed c.loop-i.rest.now here))
 
 pub returns-else-eq : goal.returns-else-eq
 returns-else-eq c =
     let v = c.loop-i.invariant in
     let all : c.args.count - c.loop-i.i ≡ 0 = omega arith in
-    no_form v.0 _ _ v.2 (ap (λ (n : ℕ). read_numbers n c.loop-i.rest.now) all ∙ not_closed c.loop-i.rest.now (sym (rw c.as_slice.ensures at c.eq.ensures) ∙ c.if-eq.false))
+    let other : pointwise nat_eq c.loop-i.rest.now (41 ∷ []) ≡ false = grind (arith, take_all, c.eq.ensures, c.as_slice.ensures, ap length c.as_slice.ensures, c.if-eq.false) in
+    no_form v.0 _ _ v.2 (ap (λ (n : ℕ). read_numbers n c.loop-i.rest.now) all ∙ not_closed c.loop-i.rest.now other)

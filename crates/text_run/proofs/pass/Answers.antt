@@ -13,7 +13,8 @@ returns-in_err-z c =
     let h = c.handed-text.ensures in
     let r = c.read-answer.ensures in
     let l = c.in_err-z.ensures in
-    let x = pass_short a.write a.text.now a.s.now a.buffer.now a.plan.now h r.value l.buffer_after l.value in
+    let told = c.with_number.ensures in
+    let x = pass_short a.write a.text.now a.s.now a.buffer.now a.plan.now h r.value (rw told at l.buffer_after) (rw told at l.value) in
     record {
       value = c.from_residual.ensures ∙ x.0;
       s_after = x.1.0;
@@ -27,8 +28,9 @@ returns c =
     let h = c.handed-text.ensures in
     let r = c.read-answer.ensures in
     let l = c.in_ok-z.ensures in
+    let told = c.with_number.ensures in
     let b = c.behind_plan.ensures in
-    let x = pass_on a.write a.text.now a.s.now a.buffer.now a.plan.now h r.value l.buffer_after r.plan_after l.value (b.value, (b.s_after, b.buffer_after)) in
+    let x = pass_on a.write a.text.now a.s.now a.buffer.now a.plan.now h r.value (rw told at l.buffer_after) r.plan_after (rw told at l.value) (b.value, (b.s_after, b.buffer_after)) in
     record {
       value = x.0;
       s_after = x.1.0;

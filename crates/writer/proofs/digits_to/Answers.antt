@@ -4,7 +4,7 @@ use Rattle.std.proofs.Common.{◌≡◌, sym, ap, ◌∙◌, List, ◌∷◌, �
 use lib.ListN.{drop_of_length-le}
 use lib.Seq.{take-length}
 use Rattle.text.specs.Number.{digits, value_from}
-use Rattle.text.proofs.Digits.{value_digits, value_more, digits_range}
+use Rattle.text.proofs.Digits.{value_digits, value_more, digits_range, digits_some}
 use Rattle.writer.specs.Write.{overwrite}
 use Rattle.writer.proofs.Writes.{overwrite-none, overwrite-cons}
 use Rattle.writer.proofs.digits_to.Goals as goal
@@ -39,7 +39,7 @@ loop-place-init c =
     let a = c.args in
     let p : ℕ = a.at + c.number_length.result in
     let b = begun a.buffer.now p (p - a.at) a.value (omega (arith, c.number_length.ensures)) in
-    (omega arith, b.0, b.1)
+    (omega (arith, c.number_length.ensures, digits_some a.value), b.0, b.1)
 
 pub loop-place-preserved : goal.loop-place-preserved
 loop-place-preserved c =
@@ -57,8 +57,38 @@ loop-place-preserved c =
           (s.invariant.2 ∙ same a.buffer.now s.place (p + 1) (s.place - a.at) (m + 1) a.value (omega arith) e) b.1,
     )
 
+nothing : (n : ℕ) → value_from 0 (take 0 (digits n)) ≡ 0
+unfolding value_from
+nothing n = λ i. 0
+
+-- the first digit is what is left
+first : (n rest : ℕ) → rest ≡ value_from 0 (take 1 (digits n)) → (rest ≤ 9) × (48 + rest ≡ get_or (digits n) 0 0)
+first n rest e =
+    let r = digits_range n 0 (digits_some n) in
+    let v = value_more (digits n) 0 (digits_some n) in
+    (omega (arith, e, r.0, r.1, v, nothing n), omega (arith, e, r.0, r.1, v, nothing n))
+
+-- behind the loop one digit is left
+alone : (at place rest n : ℕ) → at + 1 ≤ place → place ≤ at + 1 → rest ≡ value_from 0 (take (place - at) (digits n)) → rest ≡ value_from 0 (take 1 (digits n))
+alone at place rest n low high e = e ∙ ap (λ (k : ℕ). value_from 0 (take k (digits n))) {y = 1} (omega arith)
+
+pub overflow_cast-buffer-2 : goal.overflow_cast-buffer-2
+overflow_cast-buffer-2 c =
+    let s = c.loop-place in
+    omega (arith, (first c.args.value s.rest (alone c.args.at s.place s.rest c.args.value (omega arith) (omega arith) s.invariant.1)).0)
+
+pub overflow_add-buffer-2 : goal.overflow_add-buffer-2
+overflow_add-buffer-2 c =
+    let s = c.loop-place in
+    omega (arith, (first c.args.value s.rest (alone c.args.at s.place s.rest c.args.value (omega arith) (omega arith) s.invariant.1)).0)
+
 pub returns : goal.returns
 returns c =
     let a = c.args in
     let s = c.loop-place in
-    (omega (arith, c.number_length.ensures), s.invariant.2 ∙ same a.buffer.now s.place a.at (s.place - a.at) 0 a.value (omega arith) (omega arith))
+    let f = first a.value s.rest (alone a.at s.place s.rest a.value (omega arith) (omega arith) s.invariant.1) in (
+      omega (arith, c.number_length.ensures),
+      ap (λ (x : ℕ). set s.buffer a.at x) (omega (arith, f.0))
+          ∙ one_more a.buffer.now s.buffer a.at 0 a.value (48 + s.rest) (digits_some a.value) (omega (arith, length-drop 0 (digits a.value), c.requires))
+          (s.invariant.2 ∙ same a.buffer.now s.place (a.at + 1) (s.place - a.at) 1 a.value (omega arith) (omega arith)) f.1,
+    )
